@@ -1,0 +1,6 @@
+pub mod Laws
+pub mod Set
+pub mod Run
+pub mod Plan
+pub mod Play
+pub mod Settle

@@ -1,0 +1,10 @@
+pub mod Search
+pub mod Decide
+pub mod Answer
+pub mod Unique
+pub mod Replies
+pub mod Freedom
+pub mod Trail
+pub mod Ends
+pub mod Condition2
+pub mod Impostors

@@ -1,0 +1,4 @@
+pub mod Multiple
+pub mod Admitted
+pub mod Tidy
+pub mod Widths

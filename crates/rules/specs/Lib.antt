@@ -1,0 +1,17 @@
+pub mod Lists
+pub mod Tasks
+pub mod Hyper
+pub mod Positions
+pub mod Choices
+pub mod Endless
+pub mod Records
+pub mod Planner
+pub mod Condition2
+pub mod Jobs
+pub mod Player
+pub mod States
+pub mod Observer
+pub mod Condition3
+pub mod Impostors
+pub mod Examples
+pub mod Corners

@@ -1,0 +1,1 @@
+// The rules alone: definitions in specs/, theorems in proofs/. No code.
