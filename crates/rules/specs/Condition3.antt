@@ -11,7 +11,7 @@ use Rattle.rules.specs.Hyper.{hyper}
 use Rattle.rules.specs.Positions.{idle}
 use Rattle.rules.specs.Records.{SetRecord}
 use Rattle.rules.specs.States.{StateRecord, started, startReply, ticked, tickReply}
-use Rattle.rules.specs.Observer.{over, inStep, Watch, watched}
+use Rattle.rules.specs.Observer.{inStep, over, Watch, watched}
 
 -- what comes out of a tick
 pub record Out : Type 0 where

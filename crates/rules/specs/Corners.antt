@@ -77,9 +77,9 @@ corners =
     ∷ ofRun (handed (taskEntry 1 1 1 (1 ∷ []) ∷ [])) (0 ∷ []) ((0 ∷ []) ∷ (2 ∷ []) ∷ (1 ∷ []) ∷ []) ((0 ∷ 0 ∷ []) ∷ (0 ∷ 3 ∷ []) ∷ (0 ∷ 0 ∷ []) ∷ [])  -- false at the last slot, new job in the same tick
     ∷ ofRun (handed (taskEntry 6 6 2 (1 ∷ 1 ∷ 2 ∷ []) ∷ [])) (0 ∷ 255 ∷ 0 ∷ 0 ∷ 255 ∷ 255 ∷ []) ((0 ∷ []) ∷ (1 ∷ []) ∷ (0 ∷ []) ∷ (2 ∷ []) ∷ (1 ∷ []) ∷ (3 ∷ []) ∷ (7 ∷ []) ∷ []) ((0 ∷ 0 ∷ []) ∷ (255 ∷ 0 ∷ []) ∷ (255 ∷ 2 ∷ []) ∷ (255 ∷ 0 ∷ []) ∷ (255 ∷ 0 ∷ []) ∷ (255 ∷ 0 ∷ []) ∷ (0 ∷ 0 ∷ []) ∷ [])  -- late is stopped once; a stopped job ignores reports
     ∷ ofRun (handed (taskEntry 6 6 2 (2 ∷ 1 ∷ 2 ∷ []) ∷ [])) (0 ∷ 0 ∷ 255 ∷ 0 ∷ 0 ∷ 255 ∷ []) ((0 ∷ []) ∷ (1 ∷ []) ∷ (2 ∷ []) ∷ (0 ∷ []) ∷ (1 ∷ []) ∷ (0 ∷ []) ∷ []) ((0 ∷ 0 ∷ []) ∷ (255 ∷ 0 ∷ []) ∷ (255 ∷ 0 ∷ []) ∷ (0 ∷ 0 ∷ []) ∷ (255 ∷ 0 ∷ []) ∷ (255 ∷ 0 ∷ []) ∷ [])  -- early finish: the slot idles
-    ∷ ofRun (handed (taskEntry 6 6 2 (1 ∷ 3 ∷ 1 ∷ []) ∷ [])) (0 ∷ 255 ∷ 255 ∷ 255 ∷ 0 ∷ 255 ∷ []) ((0 ∷ []) ∷ (1 ∷ []) ∷ (2 ∷ []) ∷ (0 ∷ []) ∷ (0 ∷ []) ∷ (1 ∷ []) ∷ []) ((0 ∷ 0 ∷ []) ∷ (255 ∷ 0 ∷ []) ∷ (255 ∷ 0 ∷ []) ∷ (255 ∷ 0 ∷ []) ∷ (0 ∷ 0 ∷ []) ∷ (255 ∷ 0 ∷ []) ∷ [])  -- waitWritten ended early: the next step runs only at its planned slot
-    ∷ ofRun (handed (taskEntry 6 6 2 (1 ∷ 3 ∷ 1 ∷ []) ∷ [])) (0 ∷ 255 ∷ 255 ∷ 255 ∷ 0 ∷ 255 ∷ []) ((0 ∷ []) ∷ (1 ∷ []) ∷ (0 ∷ []) ∷ (0 ∷ []) ∷ (2 ∷ []) ∷ (1 ∷ []) ∷ []) ((0 ∷ 0 ∷ []) ∷ (255 ∷ 0 ∷ []) ∷ (255 ∷ 0 ∷ []) ∷ (255 ∷ 0 ∷ []) ∷ (0 ∷ 0 ∷ []) ∷ (255 ∷ 0 ∷ []) ∷ [])  -- waitWritten ends in the very slot planned for the next step
-    ∷ ofRun (handed (taskEntry 6 6 2 (1 ∷ 1 ∷ 1 ∷ []) ∷ [])) (0 ∷ 255 ∷ 255 ∷ 255 ∷ 0 ∷ 255 ∷ []) ((0 ∷ []) ∷ (1 ∷ []) ∷ (0 ∷ []) ∷ (0 ∷ []) ∷ (2 ∷ []) ∷ (1 ∷ []) ∷ []) ((0 ∷ 0 ∷ []) ∷ (255 ∷ 0 ∷ []) ∷ (255 ∷ 0 ∷ []) ∷ (255 ∷ 0 ∷ []) ∷ (0 ∷ 0 ∷ []) ∷ (255 ∷ 0 ∷ []) ∷ [])  -- waitWritten too long but before its planned slot: no fault
+    ∷ ofRun (handed (taskEntry 6 6 2 (1 ∷ 3 ∷ 1 ∷ []) ∷ [])) (0 ∷ 255 ∷ 255 ∷ 255 ∷ 0 ∷ 255 ∷ []) ((0 ∷ []) ∷ (1 ∷ []) ∷ (2 ∷ []) ∷ (0 ∷ []) ∷ (0 ∷ []) ∷ (1 ∷ []) ∷ []) ((0 ∷ 0 ∷ []) ∷ (255 ∷ 0 ∷ []) ∷ (255 ∷ 0 ∷ []) ∷ (255 ∷ 0 ∷ []) ∷ (0 ∷ 0 ∷ []) ∷ (255 ∷ 0 ∷ []) ∷ [])  -- wait ended early: the next step runs only at its planned slot
+    ∷ ofRun (handed (taskEntry 6 6 2 (1 ∷ 3 ∷ 1 ∷ []) ∷ [])) (0 ∷ 255 ∷ 255 ∷ 255 ∷ 0 ∷ 255 ∷ []) ((0 ∷ []) ∷ (1 ∷ []) ∷ (0 ∷ []) ∷ (0 ∷ []) ∷ (2 ∷ []) ∷ (1 ∷ []) ∷ []) ((0 ∷ 0 ∷ []) ∷ (255 ∷ 0 ∷ []) ∷ (255 ∷ 0 ∷ []) ∷ (255 ∷ 0 ∷ []) ∷ (0 ∷ 0 ∷ []) ∷ (255 ∷ 0 ∷ []) ∷ [])  -- wait ends in the very slot planned for the next step
+    ∷ ofRun (handed (taskEntry 6 6 2 (1 ∷ 1 ∷ 1 ∷ []) ∷ [])) (0 ∷ 255 ∷ 255 ∷ 255 ∷ 0 ∷ 255 ∷ []) ((0 ∷ []) ∷ (1 ∷ []) ∷ (0 ∷ []) ∷ (0 ∷ []) ∷ (2 ∷ []) ∷ (1 ∷ []) ∷ []) ((0 ∷ 0 ∷ []) ∷ (255 ∷ 0 ∷ []) ∷ (255 ∷ 0 ∷ []) ∷ (255 ∷ 0 ∷ []) ∷ (0 ∷ 0 ∷ []) ∷ (255 ∷ 0 ∷ []) ∷ [])  -- wait too long but before its planned slot: no fault
     ∷ ofRun (handed (taskEntry 6 6 2 (2 ∷ 1 ∷ 1 ∷ []) ∷ taskEntry 6 6 1 (1 ∷ []) ∷ [])) (0 ∷ 0 ∷ 1 ∷ 0 ∷ 255 ∷ 255 ∷ []) ((0 ∷ 0 ∷ []) ∷ (0 ∷ 0 ∷ []) ∷ (1 ∷ 0 ∷ []) ∷ (0 ∷ 1 ∷ []) ∷ []) ((0 ∷ 0 ∷ 0 ∷ []) ∷ (0 ∷ 0 ∷ 0 ∷ []) ∷ (1 ∷ 0 ∷ 0 ∷ []) ∷ (255 ∷ 2 ∷ 0 ∷ []) ∷ [])  -- still in an earlier step at the planned slot: late
     ∷ ofTick (record { set = (handed (taskEntry 3 3 2 (1 ∷ 1 ∷ 1 ∷ []) ∷ [])); slot = 0; planned = padded 8 0 (0 ∷ []); jobs = padded 8 blankJob ((record { step = 0; given = 0; stand = Done }) ∷ []); last = 255 }) (0 ∷ 255 ∷ 0 ∷ []) ([]) true 11  -- 11: none
     ∷ ofTick (record { set = (handed (taskEntry 3 3 2 (1 ∷ 1 ∷ 1 ∷ []) ∷ [])); slot = 0; planned = padded 8 0 (0 ∷ []); jobs = padded 8 blankJob ((record { step = 0; given = 0; stand = Done }) ∷ []); last = 255 }) (0 ∷ 255 ∷ 0 ∷ []) (0 ∷ 0 ∷ []) true 11  -- 11: two

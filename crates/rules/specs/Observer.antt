@@ -5,25 +5,25 @@ use lib.Dec.{leb, ltb}
 use lib.ListN.{length}
 use Rattle.rules.specs.Tasks.{Task, written, waitWritten}
 
--- how a job stands, told from its reports and its slots: in a step, in a waitWritten, over (every step finished), or broken by a false report
+-- how a job stands, told from its reports and its slots: in a step, in a wait, over (every step finished), or broken by a false report
 pub data Phase : Type 0 where
   inStep inWait over broken : Phase
 
 -- what the observer has noted of a job
 pub record Watch : Type 0 where
   pub phase : Phase
-  -- the step it is in, or the one whose waitWritten it is in, from 0
+  -- the step it is in, or the one whose wait it is in, from 0
   pub step : ℕ
   -- the slots it got in that step
   pub got : ℕ
-  -- the slots that its waitWritten has lasted
+  -- the slots that its wait has lasted
   pub waited : ℕ
   -- its reports, up to the end of its last step, keep within its pattern
   pub keeps : Bool
   -- and nothing was reported after that end
   pub quiet : Bool
 
--- a waitWritten stands behind step k, which is not the last
+-- a wait stands behind step k, which is not the last
 unfoldable pub hasWait : Task → ℕ → Bool
 hasWait τ k = ltb (suc (k + k)) (length (τ .pattern))
 
@@ -54,7 +54,7 @@ stepEnds τ w = record {
   quiet = w .quiet;
 }
 
--- "2 makes it ready in the next step"; the waitWritten may not have been longer than written
+-- "2 makes it ready in the next step"; the wait may not have been longer than written
 unfoldable pub waitEnds : Task → Watch → Watch
 waitEnds τ w = record {
   phase = inStep;
@@ -65,8 +65,8 @@ waitEnds τ w = record {
   quiet = w .quiet;
 }
 
--- the report on the slot just ended, in which the job ran or did not: 0 nothing, 1 step finished, 2 waitWritten ended. A 0 says that a
--- step, or a waitWritten, goes on: within the pattern only if it has lasted less than is written
+-- the report on the slot just ended, in which the job ran or did not: 0 nothing, 1 step finished, 2 wait ended. A 0 says that a
+-- step, or a wait, goes on: within the pattern only if it has lasted less than is written
 unfoldable pub heardIn : Task → Phase → Bool → ℕ → Watch → Watch
 heardIn τ inStep true zero w = demand (ltb (w .got) (written τ (w .step))) w
 heardIn τ inStep true (suc zero) w = stepEnds τ w

@@ -6,7 +6,7 @@ use lib.Dec.{eqb}
 use lib.ListN.{length, getD, replicate}
 use lib.IntN.{ℤ, pos, _-ℤ_}
 use lib.Signed.{nonNeg}
-use Rattle.rules.specs.Tasks.{Task, noTask, span, waiting, Standing, ready, done, standing, isReady, isDone}
+use Rattle.rules.specs.Tasks.{Task, noTask, span, Standing, waiting, done, ready, standing, isReady, isDone}
 
 -- A position: a slot number and every task's progress, in task order
 pub record Position : Type 0 where

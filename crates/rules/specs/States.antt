@@ -48,6 +48,13 @@ isBlankJob j = isReadyStand (j .stand) && (isZero (j .step) && isZero (j .given)
 unfoldable pub blankTask : TaskRecord
 blankTask = record { period = 0; deadline = 0; steps = 0; units = replicate 7 0 }
 
+-- a set of no task, and a state of no use: zeros throughout
+unfoldable pub blankSet : SetRecord
+blankSet = record { count = 0; entries = replicate 8 blankTask }
+
+unfoldable pub blankState : StateRecord
+blankState = record { set = blankSet; slot = 0; planned = replicate 8 0; jobs = replicate 8 blankJob; last = 0 }
+
 unfoldable pub isBlankTask : TaskRecord → Bool
 isBlankTask r = (isZero (r .period) && isZero (r .deadline)) && (isZero (r .steps) && allOf isZero (r .units))
 
@@ -156,5 +163,5 @@ tickReply w table reports enough = tickedOr w table reports (tickRefusal w table
 
 -- all of the above, for proofs that compute
 unfoldable pub openStates : Type 0
-unfolding blankJob isReadyStand isBlankJob blankTask isBlankTask unitsTidy restZero plannedForm jobFormIn jobForm jobsForm lastForm inUse inUseForm form tidyTask tidied asRecord isSchedule startRefusal startedOr startReply entryFits tickRefusal tickedOr tickReply
+unfolding blankJob isReadyStand isBlankJob blankTask blankSet blankState isBlankTask unitsTidy restZero plannedForm jobFormIn jobForm jobsForm lastForm inUse inUseForm form tidyTask tidied asRecord isSchedule startRefusal startedOr startReply entryFits tickRefusal tickedOr tickReply
 openStates = Unit {0}

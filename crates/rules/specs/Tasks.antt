@@ -24,7 +24,7 @@ sum (x ∷ xs) = x + sum xs
 unfoldable pub span : Task → ℕ
 span τ = sum (τ .pattern)
 
--- Progress is ready inside a computing step, waiting inside a waitWritten, done at L
+-- Progress is ready inside a computing step, waiting inside a wait, done at L
 pub data Standing : Type 0 where
   ready waiting done : Standing
 

@@ -17,9 +17,7 @@ use Rattle.rules.proofs.Set.Tidy.{set-fit}
 use Rattle.rules.proofs.Run.Forever.{endless-schedule, schedule-endless}
 use Rattle.rules.proofs.Plan.Unique.{precede-size}
 use Rattle.rules.proofs.Plan.Replies.{plan-parts}
-
-clash : {A : Type 0} → _≡_ {A = ℕ} 0 1 → A
-clash e = let z : ⊥ = omega arith in absurd z
+use Rattle.rules.proofs.Lists.{clash-01}
 
 module _ (s : List Task) (fit : Fit s) (dead : List Position) (area : List ℕ) where
   some-slot : 0 < hyper s
@@ -27,11 +25,11 @@ module _ (s : List Task) (fit : Fit s) (dead : List Position) (area : List ℕ) 
 
   verdict-settles : {w : Word} {n : ℕ} {f : List ℕ} → Verdict s (room s area) (length dead) w n f → Condition2 s dead area w n f
   verdict-settles (noRoom h) = record {
-    endless = λ e. clash (cc);
+    endless = λ e. clash-01 (cc);
     long = length-replicate (hyper s) idle;
-    least = λ e. clash (cc);
-    isFirst = λ e. clash (cc);
-    noneExists = λ e. clash (cc);
+    least = λ e. clash-01 (cc);
+    isFirst = λ e. clash-01 (cc);
+    noneExists = λ e. clash-01 (cc);
     outOfRoomIff = ((λ e. h), (λ k. refl));
     counted = λ k. absurd (k refl);
     roomCounted = λ e. refl;
@@ -41,20 +39,20 @@ module _ (s : List Task) (fit : Fit s) (dead : List Position) (area : List ℕ) 
     long = F .schedule .long;
     least = λ e c E. F .least (beginning c 0 (hyper s)) (endless-schedule s c fit E);
     isFirst = λ e. F;
-    noneExists = λ e. clash (cc);
-    outOfRoomIff = ((λ e. clash (cc)), (λ k. let z : ⊥ = omega arith in absurd z));
+    noneExists = λ e. clash-01 (cc);
+    outOfRoomIff = ((λ e. clash-01 (cc)), (λ k. let z : ⊥ = omega arith in absurd z));
     counted = λ k. refl;
-    roomCounted = λ e. clash (cc);
+    roomCounted = λ e. clash-01 (cc);
   }
   verdict-settles (failed h F) = record {
-    endless = λ e. clash (cc);
+    endless = λ e. clash-01 (cc);
     long = length-replicate (hyper s) idle;
-    least = λ e. clash (cc);
-    isFirst = λ e. clash (cc);
+    least = λ e. clash-01 (cc);
+    isFirst = λ e. clash-01 (cc);
     noneExists = λ e c E. F (beginning c 0 (hyper s)) (endless-schedule s c fit E);
-    outOfRoomIff = ((λ e. clash (cc)), (λ k. let z : ⊥ = omega arith in absurd z));
+    outOfRoomIff = ((λ e. clash-01 (cc)), (λ k. let z : ⊥ = omega arith in absurd z));
     counted = λ k. refl;
-    roomCounted = λ e. clash (cc);
+    roomCounted = λ e. clash-01 (cc);
   }
 
 pub planned-settles : (s : List Task) → Fit s → (table area : List ℕ) (q : Reply) → Planned s table area q → (dead : List Position) → Precede s dead

@@ -13,6 +13,7 @@ use Rattle.rules.specs.Planner.{Word, planRefusal, Answer, refused, answ
 use Rattle.rules.proofs.Set.Tidy.{set-fit, set-small}
 use Rattle.rules.proofs.Plan.Answer.{answer, answer-planned}
 use Rattle.rules.proofs.Plan.Unique.{planned-unique}
+use Rattle.rules.proofs.Lists.{clash-01}
 
 -- what two replies share: the answer, the whole table, and the area but for the records
 pub record SameReply (r : SetRecord) (a b : Answer) (t u : List ℕ) (x y : List ℕ) : Type 0 where
@@ -21,12 +22,9 @@ pub record SameReply (r : SetRecord) (a b : Answer) (t u : List ℕ) (x y : List
   pub area : (n : ℕ) → a ≡ refused n → x ≡ y
   pub beyond : (w : Word) (n : ℕ) → a ≡ answered w n → drop (n * suc (length (setIn r))) x ≡ drop (n * suc (length (setIn r))) y
 
-clash : {A : Type 0} → _≡_ {A = ℕ} 0 1 → A
-clash e = let z : ⊥ = omega arith in absurd z
-
 pub reply-unique : (r : SetRecord) (table area : List ℕ) {a b : Answer} {t u x y : List ℕ} → PlanReply r table area a t x → PlanReply r table area b u y → SameReply r a b t u x y
 reply-unique r table area (refuses {n = n} e) (refuses {n = m} f) = record
-    { answer = (let k : suc n ≡ suc m = sym e ∙ f in ap refused k); table = refl; area = λ i q. refl; beyond = λ w i q. clash (cc) }
+    { answer = (let k : suc n ≡ suc m = sym e ∙ f in ap refused k); table = refl; area = λ i q. refl; beyond = λ w i q. clash-01 (cc) }
 reply-unique r table area (refuses {n = n} e) (plans {q = q} f Q) = let k : suc n ≡ 0 = sym e ∙ f in let z : ⊥ = omega arith in absurd z
 reply-unique r table area (plans {q = p} e P) (refuses {n = n} f) = let k : suc n ≡ 0 = sym f ∙ e in let z : ⊥ = omega arith in absurd z
 reply-unique r table area (plans {q = p} e P) (plans {q = q} f Q) =
@@ -34,7 +32,7 @@ reply-unique r table area (plans {q = p} e P) (plans {q = q} f Q) =
     record {
       answer = ap₂ (λ w n. answered w n) (G .word) (G .count);
       table = G .table;
-      area = λ i k. clash (cc);
+      area = λ i k. clash-01 (cc);
       beyond = λ w n k. beyond' w n k (G .beyond) (G .count);
     }
   where

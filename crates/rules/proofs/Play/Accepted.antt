@@ -23,7 +23,8 @@ use Rattle.rules.proofs.Laws.{and-T, T-and, or-T, true-T, every-of}
 use Rattle.rules.proofs.Set.Multiple.{hyper-dvd, hyper-pos}
 use Rattle.rules.proofs.Run.Forever.{at-slot, at-length, once, legal-once, wraps, progress-fits}
 use Rattle.rules.proofs.Play.Keep.{Sized, sized, Lane, lane, laneNext}
-use Rattle.rules.proofs.Play.Lanes.{states, laneOf, follows, same, slot-is, planned-length, starts-slot, tabulate-at}
+use Rattle.rules.proofs.Play.Lanes.{states, laneOf, follows, same, slot-is, planned-length, starts-slot}
+use Rattle.rules.proofs.Lists.{tabulate-at}
 
 -- ── a table that is a schedule ──────────────────────────────────────────────
 

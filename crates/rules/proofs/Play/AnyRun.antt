@@ -18,6 +18,7 @@ use Rattle.rules.proofs.Set.Tidy.{padded-take, padded-rest, zero-is, bl
 use Rattle.rules.proofs.Play.Lanes.{states, planned-length}
 use Rattle.rules.proofs.Play.Obey.{rulesPlayer, condition3, out-runner, out-faults, obeys}
 use Rattle.rules.proofs.Play.Accepted.{schedule-is, core-form, entry-fits, jobs-length}
+use Rattle.rules.proofs.Lists.{clash-01}
 
 -- ── what an accepted start says ─────────────────────────────────────────────
 
@@ -25,9 +26,6 @@ pub record Start (r : SetRecord) (table : List ℕ) (w : StateRecord) : Type 0 w
   pub admissible : recordRefusal r ≡ 0
   pub schedule : Schedule (setIn r) table
   pub state : w ≡ asRecord (tidied r) (fresh (setIn r))
-
-clash : {A : Type 0} → _≡_ {A = ℕ} 0 1 → A
-clash e = let z : ⊥ = omega arith in absurd z
 
 start-parts : (r : SetRecord) (table : List ℕ) → startRefusal r table true ≡ 0 → (recordRefusal r ≡ 0) × Schedule (setIn r) table
 unfolding startRefusal orElse
@@ -50,7 +48,7 @@ start-is r table w e = go (startRefusal r table true) refl e
       where
         whole : startedOr r 0 ≡ started w → w ≡ asRecord (tidied r) (fresh (setIn r))
         whole e = cc
-    go (suc n) q e = clash (cc)
+    go (suc n) q e = clash-01 (cc)
 
 -- ── the states of a run, wrapped ────────────────────────────────────────────
 

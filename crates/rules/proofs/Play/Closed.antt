@@ -22,8 +22,9 @@ use Rattle.rules.proofs.Set.Multiple.{hyper-dvd, hyper-pos}
 use Rattle.rules.proofs.Set.Tidy.{padded-take, padded-rest, zero-is, blank-job-is, counts, set-length, set-fit, set-small, set-shape}
 use Rattle.rules.proofs.Run.Reach.{ended-at, next-at, next-length}
 use Rattle.rules.proofs.Play.Keep.{Sized, SizedJob, sized-report, sized-begun, sized-slot}
-use Rattle.rules.proofs.Play.Lanes.{tabulate-at, turn-runs}
+use Rattle.rules.proofs.Play.Lanes.{turn-runs}
 use Rattle.rules.proofs.Play.Accepted.{Neat, NeatJob, neat-report, neat-begun, neat-slot, job-form, jobs-form, last-after}
+use Rattle.rules.proofs.Lists.{clash, tabulate-length, tabulate-at}
 
 -- ── what the form says of one job ───────────────────────────────────────────
 
@@ -166,19 +167,11 @@ module _ (s : List Task) (cs : List ℕ) (fit : Fit s) (small : length s ≤ idl
 
 -- ── the whole state ─────────────────────────────────────────────────────────
 
-tabulate-length : {A : Type 0} (f : ℕ → A) (i n : ℕ) → length (tabulate f i n) ≡ n
-unfolding tabulate
-tabulate-length f i zero = refl
-tabulate-length f i (suc n) = ap suc (tabulate-length f (suc i) n)
-
 record Fine (w : StateRecord) (table : List ℕ) : Type 0 where
   admissible : recordRefusal (w .set) ≡ 0
   formed : T (inUseForm (setIn (w .set)) (inUse w))
   rest : T (restZero w)
   fitting : T (entryFits (setIn (w .set)) (inUse w) table)
-
-clash : {A : Type 0} (n : ℕ) → _≡_ {A = ℕ} (suc n) 0 → A
-clash n e = let z : ⊥ = omega arith in absurd z
 
 -- what an accepted tick says
 tick-parts : (w : StateRecord) (table reports : List ℕ) (enough : Bool) → tickRefusal w table reports enough ≡ 0 → Fine w table

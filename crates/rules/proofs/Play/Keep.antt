@@ -66,7 +66,7 @@ place-end (n ∷ ns) p h = go (ltb p n) refl (place-end ns (p - n))
     go true e ih = let k = ltb-true p n e in omega arith
     go false e ih = let k = ltb-false p n e in let r = ih (omega arith) in omega arith
 
--- an even place is no waitWritten
+-- an even place is no wait
 unfoldable pub notWaiting : Standing → Type 0
 notWaiting ready = Unit {0}
 notWaiting waiting = ⊥
@@ -99,7 +99,7 @@ mutual
 -- ── reports that keep within the pattern ────────────────────────────────────
 
 -- a job that stands so, in step k with g slots given, or waiting for w slots, is reported on by r within its pattern:
--- a step ends at the latest with its last slot, a waitWritten lasts no longer than written, and nothing else is reported
+-- a step ends at the latest with its last slot, a wait lasts no longer than written, and nothing else is reported
 abbrev pub Keeps : Task → Stand → Bool → ℕ → ℕ → ℕ → ℕ → Type 0
 Keeps τ Ready true k g w r = (r ≡ 1) ⊎ ((r ≡ 0) × (g < written τ k))
 Keeps τ Ready false k g w r = r ≡ 0
@@ -123,7 +123,7 @@ Level τ p Waiting k g w = (suc (suc (k + k)) < length (τ .pattern)) × (p ≤ 
 Level τ p Done k g w = Unit {0}
 Level τ p (Stopped c) k g w = ⊥
 
--- the slots that a waitWritten has lasted
+-- the slots that a wait has lasted
 unfoldable pub waitedNow : Stand → ℕ → ℕ
 waitedNow Ready w = 0
 waitedNow Waiting w = suc w

@@ -21,6 +21,7 @@ use Rattle.rules.proofs.Set.Multiple.{hyper-dvd, hyper-pos}
 use Rattle.rules.proofs.Run.Reach.{ended-at, next-at, next-length}
 use Rattle.rules.proofs.Run.Forever.{ending-is, progress-zero, progress-suc, schedule-endless}
 use Rattle.rules.proofs.Play.Keep.{Lane, lane, laneNext, Follows}
+use Rattle.rules.proofs.Lists.{tabulate-at}
 
 -- ── runs ───────────────────────────────────────────────────────────
 
@@ -54,12 +55,6 @@ module _ (s : List Task) (cs : List ℕ) (fit : Fit s) (S : Schedule s cs) (j : 
       due' k t e = rw (ending-is s (repeated cs) j h t) at (isDone-span (getD s j noTask) (ending s (repeated cs) t j) (schedule-endless s cs fit (hyper-dvd s) some-slot S .onTime j h k t e))
 
 -- ── each task goes by the table and its own reports ─────────────────────────
-
-pub tabulate-at : {A : Type 0} (f : ℕ → A) (i n j : ℕ) (d : A) → j < n → getD (tabulate f i n) j d ≡ f (i + j)
-unfolding tabulate
-tabulate-at f i zero j d h = let z : ⊥ = omega arith in absurd z
-tabulate-at f i (suc n) zero d h = ap f (omega arith)
-tabulate-at f i (suc n) (suc j) d h = tabulate-at f (suc i) n j d (omega arith) ∙ ap f (omega arith)
 
 turn-starts : (τ : Task) (t u p : ℕ) (own ran : Bool) (k : Job) (r : ℕ) → starts t τ ≡ starts u τ → turn τ t p own ran k r ≡ turn τ u p own ran k r
 unfolding turn begun

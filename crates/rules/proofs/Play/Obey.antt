@@ -21,6 +21,7 @@ use Rattle.rules.specs.Condition3.{Out, reportOn, faultOn, getsSlot, job
 use Rattle.rules.proofs.Play.Keep.{Follows}
 use Rattle.rules.proofs.Play.Lanes.{states, laneOf, follows, same, slot-is, faultOf, fault-is}
 use Rattle.rules.proofs.Play.Observed.{laneAt, gets, seen, seen-finishes, seen-gets, faultAt, seen-blameless, first-blameless, lane-agree}
+use Rattle.rules.proofs.Lists.{tabulate-length}
 
 -- the player of document 01, for one set and table
 abbrev pub rulesPlayer : List Task → List ℕ → AnyPlayer
@@ -44,11 +45,6 @@ out-runner s table reports t = ap (λ st. tick s table st (reports t) .runner) (
 pub out-faults : (s : List Task) (table : List ℕ) (reports : ℕ → List ℕ) (t : ℕ) → outAt (rulesPlayer s table) reports t .faults ≡ tick s table (states s table reports t) (reports t) .faults
 unfolding outAt
 out-faults s table reports t = ap (λ st. tick s table st (reports t) .faults) (state-is s table reports t)
-
-tabulate-length : {A : Type 0} (f : ℕ → A) (i n : ℕ) → length (tabulate f i n) ≡ n
-unfolding tabulate
-tabulate-length f i zero = refl
-tabulate-length f i (suc n) = ap suc (tabulate-length f (suc i) n)
 
 module _ (s : List Task) (cs : List ℕ) (fit : Fit s) (small : length s ≤ idle) (shape : (j : ℕ) → j < length s → Shape (getD s j noTask .pattern)) (S : Schedule s cs) where
   outs : (ℕ → List ℕ) → ℕ → Out

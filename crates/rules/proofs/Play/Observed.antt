@@ -13,10 +13,11 @@ use Rattle.rules.specs.Positions.{moved, starts}
 use Rattle.rules.specs.Jobs.{overrun, Stand, Ready, Waiting, Done, Stopped, Job, finished, stop, reported, begun, ownerRuns, ownerLate, ownedBy, turn, openJobs}
 use Rattle.rules.specs.Observer.{Phase, inStep, inWait, over, broken, Watch, opening, demand, breaks, afterEnd, stepEnds, waitEnds, heardIn, heard, slotIn, slotPasses, watched, openObserver}
 use Rattle.rules.proofs.Play.Keep.{off-suc, off-le, Keeps, Level, Lane, lane, laneNext, told, Follows, starts-at, starts-not, slotted, waitedNow, after-report, after-slot, not-late, no-code, no-fault, inside-span, Sized, SizedJob, sized, sized-report, sized-begun}
+use Rattle.rules.proofs.Lists.{clash-bool}
 
 -- ── the observer's notes and the player's job ───────────────────────────────
 
--- where the player's job isn't stopped, the notes say the same of it; v is the slots that its waitWritten has lasted
+-- where the player's job isn't stopped, the notes say the same of it; v is the slots that its wait has lasted
 abbrev pub Match : Watch → Stand → ℕ → ℕ → ℕ → Type 0
 Match w Ready k g v = (w .phase ≡ inStep) × (w .step ≡ k) × (w .got ≡ g)
 Match w Waiting k g v = (w .phase ≡ inWait) × (w .step ≡ k) × (w .waited ≡ v)
@@ -26,16 +27,13 @@ Match w (Stopped c) k g v = Unit {0}
 abbrev pub MatchJob : Watch → Job → ℕ → Type 0
 MatchJob w j v = Match w (j .stand) (j .step) (j .given) v
 
-clash : {A : Type 0} → _≡_ {A = Bool} false true → A
-clash e = let z : _≡_ {A = ℕ} 0 1 = cc in let y : ⊥ = omega arith in absurd y
-
 and-left : (a b : Bool) → (a && b) ≡ true → a ≡ true
 and-left true b e = refl
 and-left false b e = e
 
 and-right : (a b : Bool) → (a && b) ≡ true → b ≡ true
 and-right true b e = e
-and-right false b e = clash e
+and-right false b e = clash-bool e
 
 -- what stays in a slot
 slot-phase : (w : Watch) (b : Bool) → slotPasses b w .phase ≡ w .phase
@@ -68,13 +66,13 @@ heard-keeps τ ran r w e = go (w .phase) ran r e
     go : (f : Phase) (ran : Bool) (r : ℕ) → heardIn τ f ran r w .keeps ≡ true → w .keeps ≡ true
     go inStep true zero e = and-left (w .keeps) _ e
     go inStep true (suc zero) e = and-left (w .keeps) _ e
-    go inStep true (suc (suc r)) e = clash e
+    go inStep true (suc (suc r)) e = clash-bool e
     go inStep false zero e = e
-    go inStep false (suc r) e = clash e
+    go inStep false (suc r) e = clash-bool e
     go inWait ran zero e = and-left (w .keeps) _ e
-    go inWait ran (suc zero) e = clash e
+    go inWait ran (suc zero) e = clash-bool e
     go inWait ran (suc (suc zero)) e = and-left (w .keeps) _ e
-    go inWait ran (suc (suc (suc r))) e = clash e
+    go inWait ran (suc (suc (suc r))) e = clash-bool e
     go over ran zero e = e
     go over ran (suc r) e = e
     go broken ran r e = e
@@ -150,13 +148,13 @@ module _ (τ : Task) where
   unfolding heardIn demand breaks afterEnd written waitWritten
   keeps-report w true zero Ready k g v M e = inl (inr (refl, ltb-true g (getD (τ .pattern) (k + k) 0) (rw (M .1, M .2) at (and-right (w .keeps) (ltb (w .got) (getD (τ .pattern) (w .step + w .step) 0)) (rw (heard-at τ true zero w inStep (M .0)) at e)))))
   keeps-report w true (suc zero) Ready k g v M e = inl (inl refl)
-  keeps-report w true (suc (suc r)) Ready k g v M e = clash (rw (heard-at τ true (suc (suc r)) w inStep (M .0)) at e)
+  keeps-report w true (suc (suc r)) Ready k g v M e = clash-bool (rw (heard-at τ true (suc (suc r)) w inStep (M .0)) at e)
   keeps-report w false zero Ready k g v M e = inl refl
-  keeps-report w false (suc r) Ready k g v M e = clash (rw (heard-at τ false (suc r) w inStep (M .0)) at e)
+  keeps-report w false (suc r) Ready k g v M e = clash-bool (rw (heard-at τ false (suc r) w inStep (M .0)) at e)
   keeps-report w ran zero Waiting k g v M e = inl (inr (refl, ltb-true v (getD (τ .pattern) (suc (k + k)) 0) (rw (M .1, M .2) at (and-right (w .keeps) (ltb (w .waited) (getD (τ .pattern) (suc (w .step + w .step)) 0)) (rw (heard-at τ ran zero w inWait (M .0)) at e)))))
-  keeps-report w ran (suc zero) Waiting k g v M e = clash (rw (heard-at τ ran (suc zero) w inWait (M .0)) at e)
+  keeps-report w ran (suc zero) Waiting k g v M e = clash-bool (rw (heard-at τ ran (suc zero) w inWait (M .0)) at e)
   keeps-report w ran (suc (suc zero)) Waiting k g v M e = inl (inl refl)
-  keeps-report w ran (suc (suc (suc r))) Waiting k g v M e = clash (rw (heard-at τ ran (suc (suc (suc r))) w inWait (M .0)) at e)
+  keeps-report w ran (suc (suc (suc r))) Waiting k g v M e = clash-bool (rw (heard-at τ ran (suc (suc (suc r))) w inWait (M .0)) at e)
   keeps-report w ran zero Done k g v M e = inl refl
   keeps-report w ran (suc r) Done k g v M e = inr (rw (heard-at τ ran (suc r) w over M) (refl, refl))
   keeps-report w ran r (Stopped c) k g v M e = inl tt
@@ -286,12 +284,12 @@ module _ (τ : Task) (shape : Shape (τ .pattern)) (own : ℕ → Bool) (p rep :
   runs-ready : (own : Bool) (st : Stand) (b : ℕ) (j : Job) → (own && ownerRuns st b j) ≡ true → st ≡ Ready
   unfolding ownerRuns
   runs-ready own Ready b j e = refl
-  runs-ready true Waiting b j e = clash e
-  runs-ready false Waiting b j e = clash e
-  runs-ready true Done b j e = clash e
-  runs-ready false Done b j e = clash e
-  runs-ready true (Stopped c) b j e = clash e
-  runs-ready false (Stopped c) b j e = clash e
+  runs-ready true Waiting b j e = clash-bool e
+  runs-ready false Waiting b j e = clash-bool e
+  runs-ready true Done b j e = clash-bool e
+  runs-ready false Done b j e = clash-bool e
+  runs-ready true (Stopped c) b j e = clash-bool e
+  runs-ready false (Stopped c) b j e = clash-bool e
 
   gets-ready : (t : ℕ) → gets t ≡ true → jobAt t .stand ≡ Ready
   unfolding gets laneAt lane laneNext turn jobAt told
@@ -333,7 +331,7 @@ module _ (τ : Task) (shape : Shape (τ .pattern)) (own : ℕ → Bool) (p rep :
 
       go : Level τ (planEnd t) (a .stand) (a .step) (a .given) (laneAt (suc t) .waited) ⊎ ((seen k (suc n) .phase ≡ over) × (seen k (suc n) .quiet ≡ false))
           → (b : Bool) → starts (suc t) τ ≡ b → turn τ (suc t) (p (suc t)) (own (suc t)) (laneAt (suc t) .ran) (laneAt (suc t) .job) (rep (suc t)) .fault ≡ 0
-      go (inr o) b e = clash (sym (o .1) ∙ quiet)
+      go (inr o) b e = clash-bool (sym (o .1) ∙ quiet)
       go (inl L) false e = rw e (no-fault τ shape (p (suc t)) (own (suc t)) (laneAt (suc t) .job .stand) (a .stand) (a .step) (a .given) (laneAt (suc t) .waited) (rw (F .goes t e) L))
       go (inl L) true e = rw (
         e,

@@ -12,6 +12,7 @@ use Rattle.rules.specs.Tasks.{Fit, noTask, Shape}
 use Rattle.rules.specs.Hyper.{hyper}
 use Rattle.rules.specs.Positions.{idle}
 use Rattle.rules.specs.Records.{TaskRecord, between, allBetween, patternOf, taskIn, taskRefusal, orElse, tasksRefusal, tasksIn, setRefusal, noRecord}
+use Rattle.rules.proofs.Lists.{clash}
 
 -- ── what admissible sets are ────────────────────────────────────────────────
 
@@ -38,9 +39,6 @@ pub record Good (r : TaskRecord) : Type 0 where
   pub due : 1 ≤ r .deadline
   pub fits : r .deadline ≤ r .period
   pub units : allBetween 1 255 (patternOf r) ≡ true
-
-clash : {A : Type 0} (n : ℕ) → suc n ≡ 0 → A
-clash n e = let z : ⊥ = omega arith in absurd z
 
 pub taskRefusal-good : (r : TaskRecord) → taskRefusal r ≡ 0 → Good r
 unfolding taskRefusal

@@ -16,9 +16,7 @@ use Rattle.rules.proofs.Laws.{passed-fits}
 use Rattle.rules.proofs.Set.Admitted.{between-le, tasks-good, set-tasks, tasks-length}
 use Rattle.rules.proofs.Set.Tidy.{counts}
 use Rattle.rules.proofs.Run.Reach.{start-length, next-length, next-at, ended-at}
-
-clash : {A : Type 0} (n : ℕ) → _≡_ {A = ℕ} (suc n) 0 → A
-clash n e = let z : ⊥ = omega arith in absurd z
+use Rattle.rules.proofs.Lists.{clash}
 
 -- "The hyper-period is at most 4,096"
 hyper-within : (rs : List TaskRecord) → setRefusal rs ≡ 0 → hyper (tasksIn rs) ≤ 4096

@@ -1,0 +1,5 @@
+pub mod Views
+pub mod OneTask
+pub mod Multiple
+pub mod Refusal
+pub mod Positions
