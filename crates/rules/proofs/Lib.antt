@@ -5,3 +5,4 @@ pub mod Run
 pub mod Plan
 pub mod Play
 pub mod Settle
+pub mod Promises

@@ -1,3 +1,4 @@
 pub mod Reach
 pub mod Forever
+pub mod Return
 pub mod Dominate

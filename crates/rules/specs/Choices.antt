@@ -9,10 +9,12 @@ use Rattle.rules.specs.Tasks.{Task}
 use Rattle.rules.specs.Hyper.{hyper}
 use Rattle.rules.specs.Positions.{Position, next, livePosition, legal, start}
 
+-- the position that a list of choices leads to
 unfoldable pub run : List Task → Position → List ℕ → Position
 run s x [] = x
 run s x (c ∷ cs) = run s (next s x c) cs
 
+-- every choice of the list is allowed and leads to a live position
 unfoldable pub liveFrom : List Task → Position → List ℕ → Bool
 liveFrom s x [] = true
 liveFrom s x (c ∷ cs) = legal s x c && liveFrom s (next s x c) cs
@@ -33,6 +35,7 @@ before [] ds = false
 before (c ∷ cs) [] = false
 before (c ∷ cs) (d ∷ ds) = ltb c d || (eqb c d && before cs ds)
 
+-- the first schedule: no schedule comes before it
 pub record First (s : List Task) (cs : List ℕ) : Type 0 where
   pub schedule : Schedule s cs
   pub least : (ds : List ℕ) → Schedule s ds → ¬ T (before ds cs)

@@ -22,6 +22,7 @@ pub record Out : Type 0 where
 unfoldable pub reportOn : (ℕ → List ℕ) → ℕ → ℕ → ℕ
 reportOn reports j t = getD (reports t) j 0
 
+-- the fault byte of task j + 1
 unfoldable pub faultOn : (ℕ → Out) → ℕ → ℕ → ℕ
 faultOn outs j t = getD (outs t .faults) j 0
 
@@ -84,6 +85,7 @@ unfoldable pub stateAt : (P : AnyPlayer) → (ℕ → List ℕ) → ℕ → P .S
 stateAt P reports zero = P .begin
 stateAt P reports (suc t) = P .onward (stateAt P reports t) (reports t)
 
+-- what comes out of the tick of slot t
 unfoldable pub outAt : AnyPlayer → (ℕ → List ℕ) → ℕ → Out
 outAt P reports t = P .out (stateAt P reports t) (reports t)
 

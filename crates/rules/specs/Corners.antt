@@ -7,8 +7,7 @@ use lib.ListN.{replicate}
 use Rattle.rules.specs.Lists.{sameLists, padded}
 use Rattle.rules.specs.Records.{SetRecord, recordRefusal}
 use Rattle.rules.specs.Jobs.{late, Ready, Waiting, Done, Stopped}
-use Rattle.rules.specs.States.{StateRecord, blankJob, blankTask, StartReply, startRefused, started, startRefusal, startReply, tickRefused, ticked, tickRefusal, tickReply}
-use Rattle.rules.specs.Impostors.{taskEntry, handed}
+use Rattle.rules.specs.States.{StateRecord, blankJob, blankTask, StartReply, startRefused, started, startRefusal, startReply, tickRefused, ticked, tickRefusal, tickReply, taskEntry, handed}
 
 -- a call and the refusal it gets (0: none), or a run from a start and what each tick gives: the runner, then the faults
 pub data Corner : Type 0 where
@@ -22,16 +21,19 @@ unfoldable pub shownBy : List ℕ → StateRecord → List (List ℕ) → List (
 shownBy table w [] = []
 shownBy table w (r ∷ rs) = elim (tickReply w table r true) [ tickRefused n ↦ (n ∷ []) ∷ shownBy table w rs | ticked a f v ↦ (a ∷ f) ∷ shownBy table v rs ]
 
+-- from the reply to a start; a refused start is its number alone
 unfoldable pub shownFrom : List ℕ → StartReply → List (List ℕ) → List (List ℕ)
 shownFrom table (startRefused n) rs = (n ∷ []) ∷ []
 shownFrom table (started w) rs = shownBy table w rs
 
+-- the definitions give the row its reply
 unfoldable pub agrees : Corner → Bool
 agrees (ofSet s n) = eqb (recordRefusal s) n
 agrees (ofStart s table enough n) = eqb (startRefusal s table enough) n
 agrees (ofTick w table reports enough n) = eqb (tickRefusal w table reports enough) n
 agrees (ofRun s table reports shown) = sameLists (shownFrom table (startReply s table true) reports) shown
 
+-- the rows, each with what it tries
 unfoldable pub corners : List Corner
 corners =
     ofSet (handed (taskEntry 3 3 2 (1 ∷ 1 ∷ 1 ∷ []) ∷ taskEntry 6 6 1 (1 ∷ []) ∷ [])) 0  -- as it is

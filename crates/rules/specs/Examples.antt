@@ -29,21 +29,26 @@ pub record Play : Type 0 where
   pub reports : List (List ℕ)
   pub shown : List (List ℕ)
 
+-- what the ticks give, each the runner and then the faults
 unfoldable pub ticks : List Task → List ℕ → State → List (List ℕ) → List (List ℕ)
 ticks s table st [] = []
 ticks s table st (r ∷ rs) = (tick s table st r .runner ∷ tick s table st r .faults) ∷ ticks s table (tick s table st r .state) rs
 
+-- a row is of the planner or of the player
 pub data Example : Type 0 where
   plan : Row → Example
   play : Play → Example
 
+-- what a row says of the rules' own statements
 unfoldable pub Settled : Example → Type 0
 Settled (plan r) = Holds r
 Settled (play p) = ticks (p .set) (p .table) (fresh (p .set)) (p .reports) ≡ p .shown
 
+-- T, D and the pattern, as in a list
 unfoldable pub task : ℕ → ℕ → List ℕ → Task
 task T D p = record { period = T; deadline = D; pattern = p }
 
+-- "Those marked P", in the order of document 01, and Example 1 of document 001
 unfoldable pub examples : List Example
 unfolding task
 examples =
@@ -56,11 +61,19 @@ examples =
     ∷ plan (record { set = task 4 4 (2 ∷ []) ∷ task 4 2 (1 ∷ []) ∷ []; numbers = 0; word = schedule; count = 0; slots = 0 ∷ 1 ∷ 0 ∷ 255 ∷ [] })
     ∷ plan (record { set = task 4 4 (1 ∷ []) ∷ task 4 2 (1 ∷ []) ∷ task 4 2 (1 ∷ []) ∷ []; numbers = 7; word = schedule; count = 1; slots = 1 ∷ 2 ∷ 0 ∷ 255 ∷ [] })
     ∷ plan (record { set = task 4 4 (1 ∷ []) ∷ task 4 2 (1 ∷ []) ∷ task 4 2 (1 ∷ []) ∷ []; numbers = 3; word = outOfRoom; count = 0; slots = 255 ∷ 255 ∷ 255 ∷ 255 ∷ [] })
+    ∷ plan (record {
+      set = task 7 7 (1 ∷ 4 ∷ 1 ∷ []) ∷ task 6 6 (1 ∷ 3 ∷ 1 ∷ []) ∷ [];
+      numbers = 0;
+      word = schedule;
+      count = 0;
+      slots = 0 ∷ 1 ∷ 255 ∷ 255 ∷ 255 ∷ 1 ∷ 0 ∷ 1 ∷ 0 ∷ 255 ∷ 255 ∷ 1 ∷ 1 ∷ 0 ∷ 0 ∷ 255 ∷ 1 ∷ 255 ∷ 1 ∷ 0 ∷ 255 ∷ 0 ∷ 1 ∷ 255 ∷ 1 ∷ 255 ∷ 0 ∷ 255 ∷ 0 ∷ 1 ∷ 1 ∷ 255 ∷ 255 ∷ 0 ∷ 1 ∷ 0 ∷ 1 ∷ 255 ∷ 255 ∷ 255 ∷ 0 ∷ 1 ∷ [];
+    })
     ∷ play (record { set = task 3 3 (1 ∷ 1 ∷ 1 ∷ []) ∷ []; table = 0 ∷ 255 ∷ 0 ∷ []; reports = (0 ∷ []) ∷ (1 ∷ []) ∷ (2 ∷ []) ∷ (1 ∷ []) ∷ []; shown = (0 ∷ 0 ∷ []) ∷ (255 ∷ 0 ∷ []) ∷ (0 ∷ 0 ∷ []) ∷ (0 ∷ 0 ∷ []) ∷ [] })
     ∷ play (record { set = task 3 3 (1 ∷ 1 ∷ 1 ∷ []) ∷ []; table = 0 ∷ 255 ∷ 0 ∷ []; reports = (0 ∷ []) ∷ (0 ∷ []) ∷ (0 ∷ []) ∷ (0 ∷ []) ∷ []; shown = (0 ∷ 0 ∷ []) ∷ (255 ∷ 1 ∷ []) ∷ (255 ∷ 0 ∷ []) ∷ (0 ∷ 0 ∷ []) ∷ [] })
     ∷ play (record { set = task 3 3 (1 ∷ 1 ∷ 1 ∷ []) ∷ []; table = 0 ∷ 255 ∷ 0 ∷ []; reports = (0 ∷ []) ∷ (1 ∷ []) ∷ (0 ∷ []) ∷ (0 ∷ []) ∷ []; shown = (0 ∷ 0 ∷ []) ∷ (255 ∷ 0 ∷ []) ∷ (255 ∷ 2 ∷ []) ∷ (0 ∷ 0 ∷ []) ∷ [] })
     ∷ []
 
+-- every row of a table
 abbrev pub All : (Example → Type 0) → List Example → Type 0
 All P [] = Unit {0}
 All P (r ∷ rs) = P r × All P rs

@@ -9,12 +9,15 @@ gcdIn zero a b = a
 gcdIn (suc k) a zero = a
 gcdIn (suc k) a (suc b) = gcdIn k (suc b) (a % suc b)
 
+-- the greatest common divisor
 unfoldable pub gcd : ℕ → ℕ → ℕ
 gcd a b = gcdIn (suc b) a b
 
+-- the least common multiple
 unfoldable pub lcm : ℕ → ℕ → ℕ
 lcm a b = a / gcd a b * b
 
+-- "The hyper-period is the least common multiple of the periods, H"
 unfoldable pub hyper : List Task → ℕ
 hyper [] = 1
 hyper (τ ∷ τs) = lcm (τ .period) (hyper τs)

@@ -4,14 +4,13 @@ use mathlib.Core.List.{List, [], _∷_}
 use Prim.Native.Nat.{ℕ, suc, _-_, _%_}
 use lib.Dec.{T, ltb, eqb}
 use lib.ListN.{length, getD, replicate}
-use Rattle.rules.specs.Lists.{padded}
 use Rattle.rules.specs.Tasks.{Task, noTask}
 use Rattle.rules.specs.Hyper.{hyper}
 use Rattle.rules.specs.Positions.{idle}
-use Rattle.rules.specs.Records.{TaskRecord, SetRecord}
+use Rattle.rules.specs.Records.{SetRecord}
 use Rattle.rules.specs.Planner.{Answer, refused, answered, AnyPlanner}
 use Rattle.rules.specs.Player.{State, fresh, tick}
-use Rattle.rules.specs.States.{blankTask}
+use Rattle.rules.specs.States.{taskEntry, handed}
 use Rattle.rules.specs.Condition3.{AnyPlayer}
 
 -- one that always idles
@@ -32,10 +31,11 @@ untouched s table = record {
   onward = λ st reports. st;
 }
 
--- one that serves the first job of each task and then only advances the slot; its state counts the ticks
+-- the runner while its first job lasts
 unfoldable pub whileFirst : List Task → ℕ → ℕ → ℕ
 whileFirst s t r = cond (ltb t (getD s r noTask .period)) r idle
 
+-- "a player that serves the first job of each task and then only advances the slot"
 abbrev pub firstJobsOnly : List Task → List ℕ → AnyPlayer
 firstJobsOnly s table = record {
   State = ℕ × State;
@@ -44,7 +44,7 @@ firstJobsOnly s table = record {
   onward = λ st reports. (suc (st .0), tick s table (st .1) reports .state);
 }
 
--- three more, each against another part of the statement: one that always runs the table's owner, whatever is reported
+-- one that always runs the table's owner, whatever is reported
 abbrev pub blind : List Task → List ℕ → AnyPlayer
 blind s table = record {
   State = ℕ;
@@ -53,10 +53,11 @@ blind s table = record {
   onward = λ t reports. suc t;
 }
 
--- and one that gives a slot in which nobody runs to the first task
+-- the first task where nobody runs
 unfoldable pub notIdle : ℕ → ℕ
 notIdle r = cond (eqb r idle) 0 r
 
+-- one that gives a slot in which nobody runs to the first task
 abbrev pub generous : List Task → List ℕ → AnyPlayer
 generous s table = record {
   State = State;
@@ -65,10 +66,11 @@ generous s table = record {
   onward = λ st reports. tick s table st reports .state;
 }
 
--- and one that takes a step for finished after its first slot: it gives no task two slots on end (its state: who ran last)
+-- idle for the task that ran last
 unfoldable pub unlessAgain : ℕ → ℕ → ℕ
 unlessAgain last r = cond (eqb last r) idle r
 
+-- one that takes a step for finished after its first slot, and gives no task two slots on end
 abbrev pub hasty : List Task → List ℕ → AnyPlayer
 hasty s table = record {
   State = ℕ × State;
@@ -85,6 +87,7 @@ nothing s t = replicate (length s) 0
 unfoldable pub single : List Task
 single = record { period = 3; deadline = 3; pattern = 1 ∷ 1 ∷ 1 ∷ [] } ∷ []
 
+-- the table 1.1
 unfoldable pub parted : List ℕ
 parted = 0 ∷ 255 ∷ 0 ∷ []
 
@@ -92,14 +95,9 @@ parted = 0 ∷ 255 ∷ 0 ∷ []
 unfoldable pub long : List Task
 long = record { period = 2; deadline = 2; pattern = 2 ∷ [] } ∷ []
 
+-- the table 11
 unfoldable pub both : List ℕ
 both = 0 ∷ 0 ∷ []
-
-unfoldable pub taskEntry : ℕ → ℕ → ℕ → List ℕ → TaskRecord
-taskEntry T D m units = record { period = T; deadline = D; steps = m; units = padded 7 0 units }
-
-unfoldable pub handed : List TaskRecord → SetRecord
-handed rs = record { count = length rs; entries = padded 8 blankTask rs }
 
 -- 1 1 1
 unfoldable pub one : SetRecord
@@ -113,6 +111,7 @@ twice = handed (taskEntry 1 1 1 (1 ∷ []) ∷ taskEntry 1 1 1 (1 ∷ []) ∷ []
 unfoldable pub half : SetRecord
 half = handed (taskEntry 2 2 1 (1 ∷ []) ∷ [])
 
+-- 2 2 2
 unfoldable pub busy : SetRecord
 busy = handed (taskEntry 2 2 1 (2 ∷ []) ∷ [])
 
@@ -121,10 +120,11 @@ unfoldable pub oneMore : Answer → Answer
 oneMore (refused n) = refused n
 oneMore (answered w n) = answered w (suc n)
 
+-- a planner whose counts are one too high
 unfoldable pub offByOne : AnyPlanner → AnyPlanner
 offByOne P r table area = record { answer = oneMore (P r table area .answer); table = P r table area .table; area = P r table area .area }
 
 -- all of the above, for proofs that compute
 unfoldable pub openImpostors : Type 0
-unfolding whileFirst notIdle unlessAgain nothing single parted long both taskEntry handed one twice half busy oneMore offByOne
+unfolding whileFirst notIdle unlessAgain nothing single parted long both one twice half busy oneMore offByOne
 openImpostors = Unit {0}

@@ -6,9 +6,11 @@ use lib.ListN.{length}
 use Rattle.rules.specs.Tasks.{Task, written, placeOf}
 use Rattle.rules.specs.Positions.{starts}
 
+-- why a job was stopped: overrun, late, or a false report
 pub data Cause : Type 0 where
   overrun late untrue : Cause
 
+-- "ready, waiting, done, or stopped with the cause"
 pub data Stand : Type 0 where
   Ready Waiting Done : Stand
   Stopped : Cause → Stand
@@ -19,9 +21,11 @@ pub record Job : Type 0 where
   pub given : ℕ
   pub stand : Stand
 
+-- a job whose last step is finished
 unfoldable pub finished : Job
 finished = record { step = 0; given = 0; stand = Done }
 
+-- a stopped job uses neither step nor slots given
 unfoldable pub stop : Cause → Job
 stop c = record { step = 0; given = 0; stand = Stopped c }
 
@@ -56,17 +60,20 @@ ownerRuns Waiting b j = false
 ownerRuns Done b j = false
 ownerRuns (Stopped c) b j = false
 
+-- the owner still waits before the planned step, or is in an earlier one
 unfoldable pub ownerLate : Stand → ℕ → Job → Bool
 ownerLate Ready b j = ltb (j .step + j .step) b
 ownerLate Waiting b j = ltb (suc (j .step + j .step)) b
 ownerLate Done b j = false
 ownerLate (Stopped c) b j = false
 
+-- the owner after its part: it got the slot, or is stopped as late, or is as it was
 unfoldable pub ownedBy : Bool → Bool → Job → Job
 ownedBy true l j = record { step = j .step; given = suc (j .given); stand = Ready }
 ownedBy false true j = stop late
 ownedBy false false j = j
 
+-- "0 none, 1 overrun, 2 late, 3 false"
 unfoldable pub code : Stand → ℕ
 code Ready = 0
 code Waiting = 0
@@ -75,6 +82,7 @@ code (Stopped overrun) = 1
 code (Stopped late) = 2
 code (Stopped untrue) = 3
 
+-- the fault of a job that was stopped at this tick; one stopped before shows no further fault
 unfoldable pub newFault : Stand → Stand → ℕ
 newFault (Stopped c) k = 0
 newFault Ready k = code k
@@ -87,6 +95,7 @@ pub record Turn : Type 0 where
   pub runs : Bool
   pub fault : ℕ
 
+-- 1, 2 and 3 for one task: t is the slot, p its planned progress, owner whether the table gives it the slot, ran whether it ran last
 unfoldable pub turn : Task → ℕ → ℕ → Bool → Bool → Job → ℕ → Turn
 turn τ t p owner ran j r =
     let a = reported τ (j .stand) ran j r in

@@ -22,10 +22,12 @@ unfoldable pub tabulate : {A : Type 0} → (ℕ → A) → ℕ → ℕ → List 
 tabulate f i zero = []
 tabulate f i (suc n) = f i ∷ tabulate f (suc i) n
 
+-- the test passes at every element
 unfoldable pub allOf : {A : Type 0} → (A → Bool) → List A → Bool
 allOf f [] = true
 allOf f (x ∷ xs) = f x && allOf f xs
 
+-- the number is 0
 unfoldable pub isZero : ℕ → Bool
 isZero n = eqb n 0
 
@@ -33,12 +35,14 @@ isZero n = eqb n 0
 unfoldable pub padded : {A : Type 0} → ℕ → A → List A → List A
 padded n x xs = xs ++ replicate (n - length xs) x
 
+-- the lists are equal, number by number
 unfoldable pub sameList : List ℕ → List ℕ → Bool
 sameList [] [] = true
 sameList [] (y ∷ ys) = false
 sameList (x ∷ xs) [] = false
 sameList (x ∷ xs) (y ∷ ys) = eqb x y && sameList xs ys
 
+-- the lists of lists are equal
 unfoldable pub sameLists : List (List ℕ) → List (List ℕ) → Bool
 sameLists [] [] = true
 sameLists [] (y ∷ ys) = false

@@ -81,6 +81,7 @@ heardIn τ over ran zero w = w
 heardIn τ over ran (suc r) w = afterEnd w
 heardIn τ broken ran r w = w
 
+-- the job after a report
 unfoldable pub heard : Task → Bool → ℕ → Watch → Watch
 heard τ ran r w = heardIn τ (w .phase) ran r w
 
@@ -92,6 +93,7 @@ slotIn inWait gets w = record { phase = w .phase; step = w .step; got = w .got; 
 slotIn over gets w = w
 slotIn broken gets w = w
 
+-- the job after a slot
 unfoldable pub slotPasses : Bool → Watch → Watch
 slotPasses gets w = slotIn (w .phase) gets w
 

@@ -27,6 +27,7 @@ pub record Precede (s : List Task) (ds : List Position) : Type 0 where
   pub only : (x : Position) → In x ds → Counted s x
   pub all : (x : Position) → Counted s x → In x ds
 
+-- the three words
 pub data Word : Type 0 where
   schedule infeasible outOfRoom : Word
 
@@ -36,12 +37,14 @@ pub data Verdict (s : List Task) (K B : ℕ) : Word → ℕ → List ℕ → Typ
   found : {f : List ℕ} → B ≤ K → First s f → Verdict s K B schedule B f
   failed : B ≤ K → ((cs : List ℕ) → ¬ Schedule s cs) → Verdict s K B infeasible B (replicate (hyper s) idle)
 
+-- a reply that is no refusal, with what the table and the area hold then
 pub record Reply : Type 0 where
   pub word : Word
   pub count : ℕ
   pub table : List ℕ
   pub area : List ℕ
 
+-- the reply to an admissible set and a table long enough
 pub record Planned (s : List Task) (table area : List ℕ) (r : Reply) : Type 0 where
   pub dead : List Position
   pub precede : Precede s dead
@@ -70,11 +73,13 @@ pub data PlanReply (r : SetRecord) (table area : List ℕ) : Answer → List ℕ
   refuses : {n : ℕ} → planRefusal r table ≡ suc n → PlanReply r table area (refused (suc n)) table area
   plans : {q : Reply} → planRefusal r table ≡ 0 → Planned (setIn r) table area q → PlanReply r table area (answered (q .word) (q .count)) (q .table) (q .area)
 
+-- what any planner gives to a call
 pub record Outcome : Type 0 where
   pub answer : Answer
   pub table : List ℕ
   pub area : List ℕ
 
+-- any planner: a set, a table and an area go in
 abbrev pub AnyPlanner : Type 0
 AnyPlanner = SetRecord → List ℕ → List ℕ → Outcome
 

@@ -39,9 +39,11 @@ moved ready chosen p = cond chosen (suc p) p
 moved waiting chosen p = suc p
 moved done chosen p = p
 
+-- the progress of task i + 1 after a slot with choice c
 unfoldable pub passed : ℕ → ℕ → Task → ℕ → ℕ
 passed c i τ p = moved (standing τ p) (eqb c i) p
 
+-- every task's progress at the end of a slot, before restarting
 unfoldable pub ended : List Task → List ℕ → ℕ → List ℕ
 ended s ps c = each (passed c) 0 s ps
 
@@ -49,9 +51,11 @@ ended s ps c = each (passed c) 0 s ps
 unfoldable pub starts : ℕ → Task → Bool
 starts t τ = eqb (t % τ .period) 0
 
+-- the progress at the start of slot t
 unfoldable pub restarted : ℕ → ℕ → Task → ℕ → ℕ
 restarted t i τ p = cond (starts t τ) 0 p
 
+-- the position that a choice leads to
 unfoldable pub next : List Task → Position → ℕ → Position
 next s x c = record { slot = suc (x .slot); progress = each (restarted (suc (x .slot))) 0 s (ended s (x .progress) c) }
 
@@ -81,6 +85,7 @@ endsLive s x c = allowed s (x .progress) c && every (endsWell (x .slot)) s (ende
 unfoldable pub legal : List Task → Position → ℕ → Bool
 legal s x c = endsLive s x c && livePosition s (next s x c)
 
+-- "All tasks release a job at time 0": slot 0, progress 0
 unfoldable pub start : List Task → Position
 start s = record { slot = 0; progress = replicate (length s) 0 }
 

@@ -15,16 +15,20 @@ pub record TaskRecord : Type 0 where
   pub steps : ℕ
   pub units : List ℕ
 
+-- a ≤ x ≤ b
 unfoldable pub between : ℕ → ℕ → ℕ → Bool
 between a b x = leb a x && leb x b
 
+-- all numbers lie between a and b
 unfoldable pub allBetween : ℕ → ℕ → List ℕ → Bool
 allBetween a b [] = true
 allBetween a b (x ∷ xs) = between a b x && allBetween a b xs
 
+-- the pattern: the units in use
 unfoldable pub patternOf : TaskRecord → List ℕ
 patternOf r = take (r .steps + r .steps - 1) (r .units)
 
+-- the task of a record
 unfoldable pub taskIn : TaskRecord → Task
 taskIn r = record { period = r .period; deadline = r .deadline; pattern = patternOf r }
 
@@ -39,10 +43,12 @@ unfoldable pub orElse : ℕ → ℕ → ℕ
 orElse zero n = n
 orElse (suc m) n = suc m
 
+-- "task by task": the first task that is refused decides
 unfoldable pub tasksRefusal : List TaskRecord → ℕ
 tasksRefusal [] = 0
 tasksRefusal (r ∷ rs) = orElse (taskRefusal r) (tasksRefusal rs)
 
+-- the tasks of records
 unfoldable pub tasksIn : List TaskRecord → List Task
 tasksIn rs = map taskIn rs
 
@@ -68,6 +74,7 @@ pub record Arrays (r : SetRecord) : Type 0 where
 unfoldable pub used : SetRecord → List TaskRecord
 used r = take (r .count) (r .entries)
 
+-- the set of a record: its tasks in use
 unfoldable pub setIn : SetRecord → List Task
 setIn r = tasksIn (used r)
 

@@ -35,12 +35,14 @@ pub record StateArrays (w : StateRecord) : Type 0 where
 unfoldable pub blankJob : Job
 blankJob = record { step = 0; given = 0; stand = Ready }
 
+-- the job is ready
 unfoldable pub isReadyStand : Stand → Bool
 isReadyStand Ready = true
 isReadyStand Waiting = false
 isReadyStand Done = false
 isReadyStand (Stopped c) = false
 
+-- the entry for a job is blank
 unfoldable pub isBlankJob : Job → Bool
 isBlankJob j = isReadyStand (j .stand) && (isZero (j .step) && isZero (j .given))
 
@@ -48,13 +50,15 @@ isBlankJob j = isReadyStand (j .stand) && (isZero (j .step) && isZero (j .given)
 unfoldable pub blankTask : TaskRecord
 blankTask = record { period = 0; deadline = 0; steps = 0; units = replicate 7 0 }
 
--- a set of no task, and a state of no use: zeros throughout
+-- a set of no task: zeros throughout
 unfoldable pub blankSet : SetRecord
 blankSet = record { count = 0; entries = replicate 8 blankTask }
 
+-- a state of no use
 unfoldable pub blankState : StateRecord
 blankState = record { set = blankSet; slot = 0; planned = replicate 8 0; jobs = replicate 8 blankJob; last = 0 }
 
+-- the entry for a task is blank
 unfoldable pub isBlankTask : TaskRecord → Bool
 isBlankTask r = (isZero (r .period) && isZero (r .deadline)) && (isZero (r .steps) && allOf isZero (r .units))
 
@@ -62,6 +66,7 @@ isBlankTask r = (isZero (r .period) && isZero (r .deadline)) && (isZero (r .step
 unfoldable pub unitsTidy : TaskRecord → Bool
 unitsTidy r = allOf isZero (drop (r .steps + r .steps - 1) (r .units))
 
+-- "parts not in use are zero"
 unfoldable pub restZero : StateRecord → Bool
 restZero w = (allOf unitsTidy (used (w .set)) && allOf isBlankTask (drop (w .set .count) (w .set .entries)))
     && (allOf isZero (drop (w .set .count) (w .planned)) && allOf isBlankJob (drop (w .set .count) (w .jobs)))
@@ -80,6 +85,7 @@ jobFormIn τ Waiting ran j = ltb (suc (suc (j .step + j .step))) (length (τ .pa
 jobFormIn τ Done ran j = isZero (j .step) && isZero (j .given)
 jobFormIn τ (Stopped c) ran j = isZero (j .step) && isZero (j .given)
 
+-- the form of one job
 unfoldable pub jobForm : Task → Bool → Job → Bool
 jobForm τ ran j = jobFormIn τ (j .stand) ran j
 
@@ -97,6 +103,7 @@ lastForm n last js = eqb last idle || (ltb last n && (isReadyStand (getD js last
 unfoldable pub inUse : StateRecord → State
 inUse w = record { slot = w .slot; planned = take (w .set .count) (w .planned); jobs = take (w .set .count) (w .jobs); last = w .last }
 
+-- the form of the parts in use
 unfoldable pub inUseForm : List Task → State → Bool
 inUseForm s st = (ltb (st .slot) (hyper s) && plannedForm s (st .slot) (st .planned)) && (jobsForm (st .last) 0 s (st .jobs) && lastForm (length s) (st .last) (st .jobs))
 
@@ -110,6 +117,7 @@ form w = eqb (recordRefusal (w .set)) 0 && (inUseForm (setIn (w .set)) (inUse w)
 unfoldable pub tidyTask : TaskRecord → TaskRecord
 tidyTask r = record { period = r .period; deadline = r .deadline; steps = r .steps; units = padded 7 0 (patternOf r) }
 
+-- the set that a start puts into the state
 unfoldable pub tidied : SetRecord → SetRecord
 tidied r = record { count = r .count; entries = padded 8 blankTask (map tidyTask (used r)) }
 
@@ -121,6 +129,7 @@ asRecord r st = record { set = r; slot = st .slot; planned = padded 8 0 (st .pla
 unfoldable pub isSchedule : List Task → List ℕ → Bool
 isSchedule s table = eqb (length table) (hyper s) && (livePosition s (start s) && liveFrom s (start s) table)
 
+-- a refusal's number, or a state
 pub data StartReply : Type 0 where
   startRefused : ℕ → StartReply
   started : StateRecord → StartReply
@@ -130,6 +139,7 @@ pub data StartReply : Type 0 where
 unfoldable pub startRefusal : SetRecord → List ℕ → Bool → ℕ
 startRefusal r table enough = orElse (recordRefusal r) (cond (not (isSchedule (setIn r) table)) 12 (cond (not enough) 8 0))
 
+-- the reply to a start whose refusal is known
 unfoldable pub startedOr : SetRecord → ℕ → StartReply
 startedOr r zero = started (asRecord (tidied r) (fresh (setIn r)))
 startedOr r (suc n) = startRefused (suc n)
@@ -140,6 +150,7 @@ startReply r table enough = startedOr r (startRefusal r table enough)
 
 -- ── a tick ──────────────────────────────────────────────────────────────────
 
+-- a refusal's number, or runner, faults and state
 pub data TickReply : Type 0 where
   tickRefused : ℕ → TickReply
   ticked : ℕ → List ℕ → StateRecord → TickReply
@@ -153,15 +164,27 @@ unfoldable pub tickRefusal : StateRecord → List ℕ → List ℕ → Bool → 
 tickRefusal w table reports enough = cond (not (form w)) 10 (cond (not (eqb (length reports) (w .set .count))) 11
     (cond (not (entryFits (setIn (w .set)) (inUse w) table)) 12 (cond (not enough) 8 0)))
 
+-- the reply to a tick whose refusal is known
 unfoldable pub tickedOr : StateRecord → List ℕ → List ℕ → ℕ → TickReply
 tickedOr w table reports zero = ticked (tick (setIn (w .set)) table (inUse w) reports .runner) (tick (setIn (w .set)) table (inUse w) reports .faults)
     (asRecord (w .set) (tick (setIn (w .set)) table (inUse w) reports .state))
 tickedOr w table reports (suc n) = tickRefused (suc n)
 
+-- the reply to a tick
 unfoldable pub tickReply : StateRecord → List ℕ → List ℕ → Bool → TickReply
 tickReply w table reports enough = tickedOr w table reports (tickRefusal w table reports enough)
 
+-- ── a set written by hand, for examples ─────────────────────────────────────
+
+-- T, D, m and the pattern, zeros behind it
+unfoldable pub taskEntry : ℕ → ℕ → ℕ → List ℕ → TaskRecord
+taskEntry T D m units = record { period = T; deadline = D; steps = m; units = padded 7 0 units }
+
+-- a record of these tasks, zeros behind them
+unfoldable pub handed : List TaskRecord → SetRecord
+handed rs = record { count = length rs; entries = padded 8 blankTask rs }
+
 -- all of the above, for proofs that compute
 unfoldable pub openStates : Type 0
-unfolding blankJob isReadyStand isBlankJob blankTask blankSet blankState isBlankTask unitsTidy restZero plannedForm jobFormIn jobForm jobsForm lastForm inUse inUseForm form tidyTask tidied asRecord isSchedule startRefusal startedOr startReply entryFits tickRefusal tickedOr tickReply
+unfolding blankJob isReadyStand isBlankJob blankTask blankSet blankState isBlankTask unitsTidy restZero plannedForm jobFormIn jobForm jobsForm lastForm inUse inUseForm form tidyTask tidied asRecord isSchedule startRefusal startedOr startReply entryFits tickRefusal tickedOr tickReply taskEntry handed
 openStates = Unit {0}

@@ -6,20 +6,16 @@ use Prim.Native.Nat.{ℕ, zero, suc, _+_, _-_, _<_}
 use native.Mathlib.Omega.{arith}
 use lib.Dec.{T, eqb, eqb→eq}
 use lib.ListN.{length, getD, drop}
-use Rattle.rules.specs.Lists.{sameList, allOf, padded}
-use Rattle.rules.specs.Tasks.{openTasks}
+use Rattle.rules.specs.Lists.{allOf, openLists}
 use Rattle.rules.specs.Hyper.{hyper, openHyper}
-use Rattle.rules.specs.Positions.{openPositions}
 use Rattle.rules.specs.Records.{TaskRecord, noRecord, SetRecord, Arrays, setIn, openRecords}
 use Rattle.rules.specs.Planner.{Word, schedule, infeasible, Planned, planRefusal, refused, answered, plans, AnyPlanner, Right}
-use Rattle.rules.specs.States.{blankTask}
-use Rattle.rules.specs.Impostors.{taskEntry, handed, one, twice, half, busy, oneMore, offByOne, openImpostors}
+use Rattle.rules.specs.States.{openStates}
+use Rattle.rules.specs.Impostors.{one, twice, half, busy, oneMore, offByOne, openImpostors}
 use Rattle.rules.specs.Examples.{Row, Holds}
 use Rattle.rules.proofs.Laws.{T-and}
-use Rattle.rules.proofs.Plan.Search.{openSearch}
-use Rattle.rules.proofs.Plan.Answer.{openAnswer}
 use Rattle.rules.proofs.Plan.Replies.{reply-unique}
-use Rattle.rules.proofs.Settle.Examples.{sameWord, fitting, passes, passes-holds}
+use Rattle.rules.proofs.Settle.Examples.{passes, passes-holds, openRow}
 
 -- ── sets to try them on ─────────────────────────────────────────────────────
 
@@ -36,19 +32,19 @@ arrays-by : (r : SetRecord) → length (r .entries) ≡ 8 → T (allOf sevenUnit
 arrays-by r e t = record { eight = e; seven = λ j h. seven-at (r .entries) t j (omega arith) }
 
 arrays-one : Arrays one
-unfolding one handed taskEntry padded blankTask allOf sevenUnits
+unfolding one openStates openLists sevenUnits
 arrays-one = arrays-by one refl tt
 
 arrays-twice : Arrays twice
-unfolding twice handed taskEntry padded blankTask allOf sevenUnits
+unfolding twice openStates openLists sevenUnits
 arrays-twice = arrays-by twice refl tt
 
 arrays-half : Arrays half
-unfolding half handed taskEntry padded blankTask allOf sevenUnits
+unfolding half openStates openLists sevenUnits
 arrays-half = arrays-by half refl tt
 
 arrays-busy : Arrays busy
-unfolding busy handed taskEntry padded blankTask allOf sevenUnits
+unfolding busy openStates openLists sevenUnits
 arrays-busy = arrays-by busy refl tt
 
 -- ── what a right planner must reply to them ─────────────────────────────────
@@ -66,19 +62,19 @@ must P R r A table area e x s n t =
 
 module _ (P : AnyPlanner) (R : Right P) where
   at-one : P one (9 ∷ []) [] .answer ≡ answered schedule 0
-  unfolding openImpostors padded sameList blankTask planRefusal openRecords passes fitting sameWord openAnswer openSearch openHyper openTasks openPositions
+  unfolding openImpostors openStates openRecords planRefusal openRow
   at-one = must P R one arrays-one (9 ∷ []) [] refl (record { set = setIn one; numbers = 0; word = schedule; count = 0; slots = 0 ∷ [] }) refl refl tt .0
 
   at-twice : P twice (9 ∷ []) (9 ∷ 9 ∷ 9 ∷ []) .answer ≡ answered infeasible 1
-  unfolding openImpostors padded sameList blankTask planRefusal openRecords passes fitting sameWord openAnswer openSearch openHyper openTasks openPositions
+  unfolding openImpostors openStates openRecords planRefusal openRow
   at-twice = must P R twice arrays-twice (9 ∷ []) (9 ∷ 9 ∷ 9 ∷ []) refl (record { set = setIn twice; numbers = 3; word = infeasible; count = 1; slots = 255 ∷ [] }) refl refl tt .0
 
   at-half : P half (9 ∷ 9 ∷ []) [] .table ≡ 0 ∷ 255 ∷ []
-  unfolding openImpostors padded sameList blankTask planRefusal openRecords passes fitting sameWord openAnswer openSearch openHyper openTasks openPositions
+  unfolding openImpostors openStates openRecords planRefusal openRow
   at-half = must P R half arrays-half (9 ∷ 9 ∷ []) [] refl (record { set = setIn half; numbers = 0; word = schedule; count = 0; slots = 0 ∷ 255 ∷ [] }) refl refl tt .1
 
   at-busy : P busy (9 ∷ 9 ∷ []) [] .table ≡ 0 ∷ 0 ∷ []
-  unfolding openImpostors padded sameList blankTask planRefusal openRecords passes fitting sameWord openAnswer openSearch openHyper openTasks openPositions
+  unfolding openImpostors openStates openRecords planRefusal openRow
   at-busy = must P R busy arrays-busy (9 ∷ 9 ∷ []) [] refl (record { set = setIn busy; numbers = 0; word = schedule; count = 0; slots = 0 ∷ 0 ∷ [] }) refl refl tt .1
 
 -- ── the impostors ───────────────────────────────────────────────────────────
