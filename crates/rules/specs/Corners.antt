@@ -6,7 +6,7 @@ use lib.Dec.{eqb}
 use lib.ListN.{replicate}
 use Rattle.rules.specs.Lists.{sameLists, padded}
 use Rattle.rules.specs.Records.{SetRecord, recordRefusal}
-use Rattle.rules.specs.Jobs.{late, Ready, Waiting, Done, Stopped}
+use Rattle.rules.specs.Jobs.{late, Stand, Ready, Waiting, Done, Stopped, Job}
 use Rattle.rules.specs.States.{StateRecord, blankJob, blankTask, StartReply, startRefused, started, startRefusal, startReply, tickRefused, ticked, tickRefusal, tickReply, taskEntry, handed}
 
 -- a call and the refusal it gets (0: none), or a run from a start and what each tick gives: the runner, then the faults
@@ -32,6 +32,13 @@ agrees (ofSet s n) = eqb (recordRefusal s) n
 agrees (ofStart s table enough n) = eqb (startRefusal s table enough) n
 agrees (ofTick w table reports enough n) = eqb (tickRefusal w table reports enough) n
 agrees (ofRun s table reports shown) = sameLists (shownFrom table (startReply s table true) reports) shown
+
+-- a job and a state written by hand, zeros in the parts not in use
+unfoldable pub job : Stand → ℕ → ℕ → Job
+job st k g = record { step = k; given = g; stand = st }
+
+unfoldable pub state : SetRecord → ℕ → List ℕ → List Job → ℕ → StateRecord
+state r t ps js l = record { set = r; slot = t; planned = padded 8 0 ps; jobs = padded 8 blankJob js; last = l }
 
 -- the rows, each with what it tries
 unfoldable pub corners : List Corner
@@ -83,50 +90,50 @@ corners =
     ∷ ofRun (handed (taskEntry 6 6 2 (1 ∷ 3 ∷ 1 ∷ []) ∷ [])) (0 ∷ 255 ∷ 255 ∷ 255 ∷ 0 ∷ 255 ∷ []) ((0 ∷ []) ∷ (1 ∷ []) ∷ (0 ∷ []) ∷ (0 ∷ []) ∷ (2 ∷ []) ∷ (1 ∷ []) ∷ []) ((0 ∷ 0 ∷ []) ∷ (255 ∷ 0 ∷ []) ∷ (255 ∷ 0 ∷ []) ∷ (255 ∷ 0 ∷ []) ∷ (0 ∷ 0 ∷ []) ∷ (255 ∷ 0 ∷ []) ∷ [])  -- wait ends in the very slot planned for the next step
     ∷ ofRun (handed (taskEntry 6 6 2 (1 ∷ 1 ∷ 1 ∷ []) ∷ [])) (0 ∷ 255 ∷ 255 ∷ 255 ∷ 0 ∷ 255 ∷ []) ((0 ∷ []) ∷ (1 ∷ []) ∷ (0 ∷ []) ∷ (0 ∷ []) ∷ (2 ∷ []) ∷ (1 ∷ []) ∷ []) ((0 ∷ 0 ∷ []) ∷ (255 ∷ 0 ∷ []) ∷ (255 ∷ 0 ∷ []) ∷ (255 ∷ 0 ∷ []) ∷ (0 ∷ 0 ∷ []) ∷ (255 ∷ 0 ∷ []) ∷ [])  -- wait too long but before its planned slot: no fault
     ∷ ofRun (handed (taskEntry 6 6 2 (2 ∷ 1 ∷ 1 ∷ []) ∷ taskEntry 6 6 1 (1 ∷ []) ∷ [])) (0 ∷ 0 ∷ 1 ∷ 0 ∷ 255 ∷ 255 ∷ []) ((0 ∷ 0 ∷ []) ∷ (0 ∷ 0 ∷ []) ∷ (1 ∷ 0 ∷ []) ∷ (0 ∷ 1 ∷ []) ∷ []) ((0 ∷ 0 ∷ 0 ∷ []) ∷ (0 ∷ 0 ∷ 0 ∷ []) ∷ (1 ∷ 0 ∷ 0 ∷ []) ∷ (255 ∷ 2 ∷ 0 ∷ []) ∷ [])  -- still in an earlier step at the planned slot: late
-    ∷ ofTick (record { set = (handed (taskEntry 3 3 2 (1 ∷ 1 ∷ 1 ∷ []) ∷ [])); slot = 0; planned = padded 8 0 (0 ∷ []); jobs = padded 8 blankJob ((record { step = 0; given = 0; stand = Done }) ∷ []); last = 255 }) (0 ∷ 255 ∷ 0 ∷ []) ([]) true 11  -- 11: none
-    ∷ ofTick (record { set = (handed (taskEntry 3 3 2 (1 ∷ 1 ∷ 1 ∷ []) ∷ [])); slot = 0; planned = padded 8 0 (0 ∷ []); jobs = padded 8 blankJob ((record { step = 0; given = 0; stand = Done }) ∷ []); last = 255 }) (0 ∷ 255 ∷ 0 ∷ []) (0 ∷ 0 ∷ []) true 11  -- 11: two
-    ∷ ofTick (record { set = (handed (taskEntry 3 3 2 (1 ∷ 1 ∷ 1 ∷ []) ∷ [])); slot = 3; planned = padded 8 0 (0 ∷ []); jobs = padded 8 blankJob ((record { step = 0; given = 0; stand = Done }) ∷ []); last = 255 }) (0 ∷ 255 ∷ 0 ∷ []) ([]) true 10  -- 10 before 11 and 12
-    ∷ ofTick (record { set = (handed (taskEntry 4 4 2 (1 ∷ 1 ∷ 1 ∷ []) ∷ [])); slot = 0; planned = padded 8 0 (0 ∷ []); jobs = padded 8 blankJob ((record { step = 0; given = 0; stand = Done }) ∷ []); last = 255 }) (0 ∷ []) ([]) true 11  -- 11 before 12
-    ∷ ofTick (record { set = (handed (taskEntry 4 4 2 (1 ∷ 1 ∷ 1 ∷ []) ∷ [])); slot = 0; planned = padded 8 0 (0 ∷ []); jobs = padded 8 blankJob ((record { step = 0; given = 0; stand = Done }) ∷ []); last = 255 }) (0 ∷ 255 ∷ 0 ∷ []) (0 ∷ []) true 12  -- table short at a tick
-    ∷ ofTick (record { set = (handed (taskEntry 4 4 2 (1 ∷ 1 ∷ 1 ∷ []) ∷ [])); slot = 0; planned = padded 8 0 (0 ∷ []); jobs = padded 8 blankJob ((record { step = 0; given = 0; stand = Done }) ∷ []); last = 255 }) (0 ∷ 255 ∷ 0 ∷ 255 ∷ 255 ∷ []) (0 ∷ []) true 12  -- table long at a tick
-    ∷ ofTick (record { set = (handed (taskEntry 4 4 2 (1 ∷ 1 ∷ 1 ∷ []) ∷ [])); slot = 0; planned = padded 8 0 (0 ∷ []); jobs = padded 8 blankJob ((record { step = 0; given = 0; stand = Done }) ∷ []); last = 255 }) (0 ∷ 255 ∷ 0 ∷ []) (0 ∷ []) false 12  -- 12 before 8
-    ∷ ofTick (record { set = (handed (taskEntry 4 4 2 (1 ∷ 1 ∷ 1 ∷ []) ∷ [])); slot = 0; planned = padded 8 0 (0 ∷ []); jobs = padded 8 blankJob ((record { step = 0; given = 0; stand = Done }) ∷ []); last = 255 }) (0 ∷ 255 ∷ 0 ∷ 255 ∷ []) (0 ∷ []) false 8  -- 8 at a tick
-    ∷ ofTick (record { set = (handed (taskEntry 4 4 2 (1 ∷ 1 ∷ 1 ∷ []) ∷ [])); slot = 0; planned = padded 8 0 (0 ∷ []); jobs = padded 8 blankJob ((record { step = 0; given = 0; stand = Done }) ∷ []); last = 255 }) (0 ∷ 7 ∷ 7 ∷ 7 ∷ []) (0 ∷ []) true 0  -- only this slot's entry is tested
-    ∷ ofTick (record { set = (handed (taskEntry 4 4 2 (1 ∷ 1 ∷ 1 ∷ []) ∷ [])); slot = 0; planned = padded 8 0 (0 ∷ []); jobs = padded 8 blankJob ((record { step = 0; given = 0; stand = Done }) ∷ []); last = 255 }) (255 ∷ 7 ∷ 7 ∷ 7 ∷ []) (0 ∷ []) true 0  -- another allowed choice to a live position
-    ∷ ofTick (record { set = (handed (taskEntry 4 4 2 (1 ∷ 1 ∷ 1 ∷ []) ∷ [])); slot = 0; planned = padded 8 0 (0 ∷ []); jobs = padded 8 blankJob ((record { step = 0; given = 0; stand = Done }) ∷ []); last = 255 }) (1 ∷ 255 ∷ 255 ∷ 255 ∷ []) (0 ∷ []) true 12  -- absent task
-    ∷ ofTick (record { set = (handed (taskEntry 3 3 2 (1 ∷ 1 ∷ 1 ∷ []) ∷ [])); slot = 2; planned = padded 8 0 (2 ∷ []); jobs = padded 8 blankJob ((record { step = 1; given = 0; stand = Ready }) ∷ []); last = 255 }) (0 ∷ 255 ∷ 0 ∷ []) (0 ∷ []) true 0  -- the last step in time
-    ∷ ofTick (record { set = (handed (taskEntry 3 3 2 (1 ∷ 1 ∷ 1 ∷ []) ∷ [])); slot = 0; planned = padded 8 0 (0 ∷ []); jobs = padded 8 blankJob ((record { step = 0; given = 0; stand = Done }) ∷ []); last = 255 }) (255 ∷ 255 ∷ 255 ∷ []) (0 ∷ []) true 12  -- idle to a position that is not live
-    ∷ ofTick (record { set = (handed (taskEntry 3 3 2 (1 ∷ 1 ∷ 1 ∷ []) ∷ [])); slot = 1; planned = padded 8 0 (1 ∷ []); jobs = padded 8 blankJob ((record { step = 0; given = 0; stand = Done }) ∷ []); last = 255 }) (255 ∷ 0 ∷ 255 ∷ []) (0 ∷ []) true 12  -- the owner waits in the plan
-    ∷ ofTick (record { set = (handed (taskEntry 3 2 2 (1 ∷ 1 ∷ 1 ∷ []) ∷ [])); slot = 2; planned = padded 8 0 (3 ∷ []); jobs = padded 8 blankJob ((record { step = 0; given = 0; stand = Done }) ∷ []); last = 255 }) (255 ∷ 255 ∷ 255 ∷ []) (0 ∷ []) true 12  -- restart to a position that is not live
-    ∷ ofTick (record { set = (handed (taskEntry 6 6 2 (2 ∷ 1 ∷ 2 ∷ []) ∷ [])); slot = 0; planned = padded 8 0 (0 ∷ []); jobs = padded 8 blankJob ((record { step = 0; given = 0; stand = Done }) ∷ []); last = 255 }) (0 ∷ 0 ∷ 255 ∷ 0 ∷ 0 ∷ 255 ∷ []) (0 ∷ []) true 0  -- fresh
-    ∷ ofTick (record { set = (handed (taskEntry 6 7 2 (2 ∷ 1 ∷ 2 ∷ []) ∷ [])); slot = 0; planned = padded 8 0 (0 ∷ []); jobs = padded 8 blankJob ((record { step = 0; given = 0; stand = Done }) ∷ []); last = 255 }) (0 ∷ 0 ∷ 255 ∷ 0 ∷ 0 ∷ 255 ∷ []) (0 ∷ []) true 10  -- set refused
-    ∷ ofTick (record { set = (handed (taskEntry 6 6 2 (2 ∷ 1 ∷ 2 ∷ []) ∷ [])); slot = 6; planned = padded 8 0 (0 ∷ []); jobs = padded 8 blankJob ((record { step = 0; given = 0; stand = Done }) ∷ []); last = 255 }) (0 ∷ 0 ∷ 255 ∷ 0 ∷ 0 ∷ 255 ∷ []) (0 ∷ []) true 10  -- slot = H
-    ∷ ofTick (record { set = (handed (taskEntry 6 6 2 (2 ∷ 1 ∷ 2 ∷ []) ∷ [])); slot = 0; planned = padded 8 0 (1 ∷ []); jobs = padded 8 blankJob ((record { step = 0; given = 0; stand = Done }) ∷ []); last = 255 }) (0 ∷ 0 ∷ 255 ∷ 0 ∷ 0 ∷ 255 ∷ []) (0 ∷ []) true 10  -- progress above 0 where the period divides the slot
-    ∷ ofTick (record { set = (handed (taskEntry 6 6 2 (2 ∷ 1 ∷ 2 ∷ []) ∷ [])); slot = 5; planned = padded 8 0 (6 ∷ []); jobs = padded 8 blankJob ((record { step = 0; given = 0; stand = Done }) ∷ []); last = 255 }) (0 ∷ 0 ∷ 255 ∷ 0 ∷ 0 ∷ 255 ∷ []) (0 ∷ []) true 10  -- progress above L
-    ∷ ofTick (record { set = (handed (taskEntry 6 6 2 (2 ∷ 1 ∷ 2 ∷ []) ∷ [])); slot = 5; planned = padded 8 0 (5 ∷ []); jobs = padded 8 blankJob ((record { step = 0; given = 0; stand = Done }) ∷ []); last = 255 }) (0 ∷ 0 ∷ 255 ∷ 0 ∷ 0 ∷ 255 ∷ []) (0 ∷ []) true 0  -- progress = L
-    ∷ ofTick (record { set = (handed (taskEntry 6 6 2 (2 ∷ 1 ∷ 2 ∷ []) ∷ [])); slot = 3; planned = padded 8 0 (0 ∷ []); jobs = padded 8 blankJob ((record { step = 0; given = 0; stand = Done }) ∷ []); last = 255 }) (0 ∷ 0 ∷ 255 ∷ 0 ∷ 0 ∷ 255 ∷ []) (0 ∷ []) true 10  -- planned position not live
-    ∷ ofTick (record { set = (handed (taskEntry 6 6 2 (2 ∷ 1 ∷ 2 ∷ []) ∷ [])); slot = 1; planned = padded 8 0 (3 ∷ []); jobs = padded 8 blankJob ((record { step = 0; given = 0; stand = Done }) ∷ []); last = 255 }) (0 ∷ 0 ∷ 255 ∷ 0 ∷ 0 ∷ 255 ∷ []) (0 ∷ []) true 0  -- progress ahead of time is still a position
-    ∷ ofTick (record { set = (handed (taskEntry 6 6 2 (2 ∷ 1 ∷ 2 ∷ []) ∷ [])); slot = 0; planned = padded 8 0 (0 ∷ []); jobs = padded 8 blankJob ((record { step = 2; given = 0; stand = Ready }) ∷ []); last = 255 }) (0 ∷ 0 ∷ 255 ∷ 0 ∷ 0 ∷ 255 ∷ []) (0 ∷ []) true 10  -- ready, step 3 of 2
-    ∷ ofTick (record { set = (handed (taskEntry 6 6 2 (2 ∷ 1 ∷ 2 ∷ []) ∷ [])); slot = 0; planned = padded 8 0 (0 ∷ []); jobs = padded 8 blankJob ((record { step = 0; given = 2; stand = Ready }) ∷ []); last = 255 }) (0 ∷ 0 ∷ 255 ∷ 0 ∷ 0 ∷ 255 ∷ []) (0 ∷ []) true 10  -- ready, all slots given, did not run last
-    ∷ ofTick (record { set = (handed (taskEntry 6 6 2 (2 ∷ 1 ∷ 2 ∷ []) ∷ [])); slot = 0; planned = padded 8 0 (0 ∷ []); jobs = padded 8 blankJob ((record { step = 0; given = 2; stand = Ready }) ∷ []); last = 0 }) (0 ∷ 0 ∷ 255 ∷ 0 ∷ 0 ∷ 255 ∷ []) (0 ∷ []) true 0  -- ready, all slots given, ran last
-    ∷ ofTick (record { set = (handed (taskEntry 6 6 2 (2 ∷ 1 ∷ 2 ∷ []) ∷ [])); slot = 0; planned = padded 8 0 (0 ∷ []); jobs = padded 8 blankJob ((record { step = 0; given = 3; stand = Ready }) ∷ []); last = 0 }) (0 ∷ 0 ∷ 255 ∷ 0 ∷ 0 ∷ 255 ∷ []) (0 ∷ []) true 10  -- ready, more than C given
-    ∷ ofTick (record { set = (handed (taskEntry 6 6 2 (2 ∷ 1 ∷ 2 ∷ []) ∷ [])); slot = 0; planned = padded 8 0 (0 ∷ []); jobs = padded 8 blankJob ((record { step = 0; given = 0; stand = Ready }) ∷ []); last = 0 }) (0 ∷ 0 ∷ 255 ∷ 0 ∷ 0 ∷ 255 ∷ []) (0 ∷ []) true 10  -- last runner without a slot given
-    ∷ ofTick (record { set = (handed (taskEntry 6 6 2 (2 ∷ 1 ∷ 2 ∷ []) ∷ [])); slot = 0; planned = padded 8 0 (0 ∷ []); jobs = padded 8 blankJob ((record { step = 0; given = 0; stand = Done }) ∷ []); last = 0 }) (0 ∷ 0 ∷ 255 ∷ 0 ∷ 0 ∷ 255 ∷ []) (0 ∷ []) true 10  -- last runner done
-    ∷ ofTick (record { set = (handed (taskEntry 6 6 2 (2 ∷ 1 ∷ 2 ∷ []) ∷ [])); slot = 0; planned = padded 8 0 (0 ∷ []); jobs = padded 8 blankJob ((record { step = 0; given = 0; stand = Done }) ∷ []); last = 1 }) (0 ∷ 0 ∷ 255 ∷ 0 ∷ 0 ∷ 255 ∷ []) (0 ∷ []) true 10  -- last runner absent
-    ∷ ofTick (record { set = (handed (taskEntry 6 6 2 (2 ∷ 1 ∷ 2 ∷ []) ∷ [])); slot = 0; planned = padded 8 0 (0 ∷ []); jobs = padded 8 blankJob ((record { step = 0; given = 0; stand = Waiting }) ∷ []); last = 255 }) (0 ∷ 0 ∷ 255 ∷ 0 ∷ 0 ∷ 255 ∷ []) (0 ∷ []) true 0  -- waiting after step 1
-    ∷ ofTick (record { set = (handed (taskEntry 6 6 2 (2 ∷ 1 ∷ 2 ∷ []) ∷ [])); slot = 0; planned = padded 8 0 (0 ∷ []); jobs = padded 8 blankJob ((record { step = 1; given = 0; stand = Waiting }) ∷ []); last = 255 }) (0 ∷ 0 ∷ 255 ∷ 0 ∷ 0 ∷ 255 ∷ []) (0 ∷ []) true 10  -- waiting after the last step
-    ∷ ofTick (record { set = (handed (taskEntry 6 6 2 (2 ∷ 1 ∷ 2 ∷ []) ∷ [])); slot = 0; planned = padded 8 0 (0 ∷ []); jobs = padded 8 blankJob ((record { step = 0; given = 1; stand = Waiting }) ∷ []); last = 255 }) (0 ∷ 0 ∷ 255 ∷ 0 ∷ 0 ∷ 255 ∷ []) (0 ∷ []) true 10  -- waiting with slots given
-    ∷ ofTick (record { set = (handed (taskEntry 6 6 2 (2 ∷ 1 ∷ 2 ∷ []) ∷ [])); slot = 0; planned = padded 8 0 (0 ∷ []); jobs = padded 8 blankJob ((record { step = 1; given = 0; stand = Done }) ∷ []); last = 255 }) (0 ∷ 0 ∷ 255 ∷ 0 ∷ 0 ∷ 255 ∷ []) (0 ∷ []) true 10  -- done with a step
-    ∷ ofTick (record { set = (handed (taskEntry 6 6 2 (2 ∷ 1 ∷ 2 ∷ []) ∷ [])); slot = 0; planned = padded 8 0 (0 ∷ []); jobs = padded 8 blankJob ((record { step = 0; given = 1; stand = Stopped late }) ∷ []); last = 255 }) (0 ∷ 0 ∷ 255 ∷ 0 ∷ 0 ∷ 255 ∷ []) (0 ∷ []) true 10  -- stopped with slots given
-    ∷ ofTick (record { set = (handed (taskEntry 6 6 2 (2 ∷ 1 ∷ 2 ∷ []) ∷ [])); slot = 0; planned = padded 8 0 (0 ∷ []); jobs = padded 8 blankJob ((record { step = 0; given = 0; stand = Stopped late }) ∷ []); last = 255 }) (0 ∷ 0 ∷ 255 ∷ 0 ∷ 0 ∷ 255 ∷ []) (0 ∷ []) true 0  -- stopped
-    ∷ ofTick (record { set = (handed (taskEntry 6 6 2 (2 ∷ 1 ∷ 2 ∷ []) ∷ [])); slot = 0; planned = padded 8 0 (0 ∷ 1 ∷ []); jobs = padded 8 blankJob ((record { step = 0; given = 0; stand = Done }) ∷ []); last = 255 }) (0 ∷ 0 ∷ 255 ∷ 0 ∷ 0 ∷ 255 ∷ []) (0 ∷ []) true 10  -- unused planned progress
-    ∷ ofTick (record { set = (handed (taskEntry 6 6 2 (2 ∷ 1 ∷ 2 ∷ []) ∷ [])); slot = 0; planned = padded 8 0 (0 ∷ []); jobs = padded 8 blankJob ((record { step = 0; given = 0; stand = Done }) ∷ blankJob ∷ blankJob ∷ blankJob ∷ blankJob ∷ blankJob ∷ blankJob ∷ (record { step = 1; given = 0; stand = Ready }) ∷ []); last = 255 }) (0 ∷ 0 ∷ 255 ∷ 0 ∷ 0 ∷ 255 ∷ []) (0 ∷ []) true 10  -- unused job
-    ∷ ofTick (record { set = (record { count = 1; entries = padded 8 blankTask (taskEntry 6 6 2 (2 ∷ 1 ∷ 2 ∷ []) ∷ record { period = 1; deadline = 0; steps = 0; units = replicate 7 0 } ∷ []) }); slot = 0; planned = padded 8 0 (0 ∷ []); jobs = padded 8 blankJob ((record { step = 0; given = 0; stand = Done }) ∷ []); last = 255 }) (0 ∷ 0 ∷ 255 ∷ 0 ∷ 0 ∷ 255 ∷ []) (0 ∷ []) true 10  -- unused task in the set
-    ∷ ofTick (record { set = (handed (taskEntry 6 6 2 (2 ∷ 1 ∷ 2 ∷ 1 ∷ []) ∷ [])); slot = 0; planned = padded 8 0 (0 ∷ []); jobs = padded 8 blankJob ((record { step = 0; given = 0; stand = Done }) ∷ []); last = 255 }) (0 ∷ 0 ∷ 255 ∷ 0 ∷ 0 ∷ 255 ∷ []) (0 ∷ []) true 10  -- unused pattern entry in the set
-    ∷ ofTick (record { set = (handed (taskEntry 6 6 2 (2 ∷ 1 ∷ 2 ∷ []) ∷ [])); slot = 0; planned = padded 8 0 (0 ∷ []); jobs = padded 8 blankJob ((record { step = 1; given = 1; stand = Ready }) ∷ []); last = 255 }) (0 ∷ 0 ∷ 255 ∷ 0 ∷ 0 ∷ 255 ∷ []) (0 ∷ []) true 0  -- ready in a step the plan has not reached is of the form
+    ∷ ofTick (state (handed (taskEntry 3 3 2 (1 ∷ 1 ∷ 1 ∷ []) ∷ [])) 0 (0 ∷ []) (job Done 0 0 ∷ []) 255) (0 ∷ 255 ∷ 0 ∷ []) ([]) true 11  -- 11: none
+    ∷ ofTick (state (handed (taskEntry 3 3 2 (1 ∷ 1 ∷ 1 ∷ []) ∷ [])) 0 (0 ∷ []) (job Done 0 0 ∷ []) 255) (0 ∷ 255 ∷ 0 ∷ []) (0 ∷ 0 ∷ []) true 11  -- 11: two
+    ∷ ofTick (state (handed (taskEntry 3 3 2 (1 ∷ 1 ∷ 1 ∷ []) ∷ [])) 3 (0 ∷ []) (job Done 0 0 ∷ []) 255) (0 ∷ 255 ∷ 0 ∷ []) ([]) true 10  -- 10 before 11 and 12
+    ∷ ofTick (state (handed (taskEntry 4 4 2 (1 ∷ 1 ∷ 1 ∷ []) ∷ [])) 0 (0 ∷ []) (job Done 0 0 ∷ []) 255) (0 ∷ []) ([]) true 11  -- 11 before 12
+    ∷ ofTick (state (handed (taskEntry 4 4 2 (1 ∷ 1 ∷ 1 ∷ []) ∷ [])) 0 (0 ∷ []) (job Done 0 0 ∷ []) 255) (0 ∷ 255 ∷ 0 ∷ []) (0 ∷ []) true 12  -- table short at a tick
+    ∷ ofTick (state (handed (taskEntry 4 4 2 (1 ∷ 1 ∷ 1 ∷ []) ∷ [])) 0 (0 ∷ []) (job Done 0 0 ∷ []) 255) (0 ∷ 255 ∷ 0 ∷ 255 ∷ 255 ∷ []) (0 ∷ []) true 12  -- table long at a tick
+    ∷ ofTick (state (handed (taskEntry 4 4 2 (1 ∷ 1 ∷ 1 ∷ []) ∷ [])) 0 (0 ∷ []) (job Done 0 0 ∷ []) 255) (0 ∷ 255 ∷ 0 ∷ []) (0 ∷ []) false 12  -- 12 before 8
+    ∷ ofTick (state (handed (taskEntry 4 4 2 (1 ∷ 1 ∷ 1 ∷ []) ∷ [])) 0 (0 ∷ []) (job Done 0 0 ∷ []) 255) (0 ∷ 255 ∷ 0 ∷ 255 ∷ []) (0 ∷ []) false 8  -- 8 at a tick
+    ∷ ofTick (state (handed (taskEntry 4 4 2 (1 ∷ 1 ∷ 1 ∷ []) ∷ [])) 0 (0 ∷ []) (job Done 0 0 ∷ []) 255) (0 ∷ 7 ∷ 7 ∷ 7 ∷ []) (0 ∷ []) true 0  -- only this slot's entry is tested
+    ∷ ofTick (state (handed (taskEntry 4 4 2 (1 ∷ 1 ∷ 1 ∷ []) ∷ [])) 0 (0 ∷ []) (job Done 0 0 ∷ []) 255) (255 ∷ 7 ∷ 7 ∷ 7 ∷ []) (0 ∷ []) true 0  -- another allowed choice to a live position
+    ∷ ofTick (state (handed (taskEntry 4 4 2 (1 ∷ 1 ∷ 1 ∷ []) ∷ [])) 0 (0 ∷ []) (job Done 0 0 ∷ []) 255) (1 ∷ 255 ∷ 255 ∷ 255 ∷ []) (0 ∷ []) true 12  -- absent task
+    ∷ ofTick (state (handed (taskEntry 3 3 2 (1 ∷ 1 ∷ 1 ∷ []) ∷ [])) 2 (2 ∷ []) (job Ready 1 0 ∷ []) 255) (0 ∷ 255 ∷ 0 ∷ []) (0 ∷ []) true 0  -- the last step in time
+    ∷ ofTick (state (handed (taskEntry 3 3 2 (1 ∷ 1 ∷ 1 ∷ []) ∷ [])) 0 (0 ∷ []) (job Done 0 0 ∷ []) 255) (255 ∷ 255 ∷ 255 ∷ []) (0 ∷ []) true 12  -- idle to a position that is not live
+    ∷ ofTick (state (handed (taskEntry 3 3 2 (1 ∷ 1 ∷ 1 ∷ []) ∷ [])) 1 (1 ∷ []) (job Done 0 0 ∷ []) 255) (255 ∷ 0 ∷ 255 ∷ []) (0 ∷ []) true 12  -- the owner waits in the plan
+    ∷ ofTick (state (handed (taskEntry 3 2 2 (1 ∷ 1 ∷ 1 ∷ []) ∷ [])) 2 (3 ∷ []) (job Done 0 0 ∷ []) 255) (255 ∷ 255 ∷ 255 ∷ []) (0 ∷ []) true 12  -- restart to a position that is not live
+    ∷ ofTick (state (handed (taskEntry 6 6 2 (2 ∷ 1 ∷ 2 ∷ []) ∷ [])) 0 (0 ∷ []) (job Done 0 0 ∷ []) 255) (0 ∷ 0 ∷ 255 ∷ 0 ∷ 0 ∷ 255 ∷ []) (0 ∷ []) true 0  -- fresh
+    ∷ ofTick (state (handed (taskEntry 6 7 2 (2 ∷ 1 ∷ 2 ∷ []) ∷ [])) 0 (0 ∷ []) (job Done 0 0 ∷ []) 255) (0 ∷ 0 ∷ 255 ∷ 0 ∷ 0 ∷ 255 ∷ []) (0 ∷ []) true 10  -- set refused
+    ∷ ofTick (state (handed (taskEntry 6 6 2 (2 ∷ 1 ∷ 2 ∷ []) ∷ [])) 6 (0 ∷ []) (job Done 0 0 ∷ []) 255) (0 ∷ 0 ∷ 255 ∷ 0 ∷ 0 ∷ 255 ∷ []) (0 ∷ []) true 10  -- slot = H
+    ∷ ofTick (state (handed (taskEntry 6 6 2 (2 ∷ 1 ∷ 2 ∷ []) ∷ [])) 0 (1 ∷ []) (job Done 0 0 ∷ []) 255) (0 ∷ 0 ∷ 255 ∷ 0 ∷ 0 ∷ 255 ∷ []) (0 ∷ []) true 10  -- progress above 0 where the period divides the slot
+    ∷ ofTick (state (handed (taskEntry 6 6 2 (2 ∷ 1 ∷ 2 ∷ []) ∷ [])) 5 (6 ∷ []) (job Done 0 0 ∷ []) 255) (0 ∷ 0 ∷ 255 ∷ 0 ∷ 0 ∷ 255 ∷ []) (0 ∷ []) true 10  -- progress above L
+    ∷ ofTick (state (handed (taskEntry 6 6 2 (2 ∷ 1 ∷ 2 ∷ []) ∷ [])) 5 (5 ∷ []) (job Done 0 0 ∷ []) 255) (0 ∷ 0 ∷ 255 ∷ 0 ∷ 0 ∷ 255 ∷ []) (0 ∷ []) true 0  -- progress = L
+    ∷ ofTick (state (handed (taskEntry 6 6 2 (2 ∷ 1 ∷ 2 ∷ []) ∷ [])) 3 (0 ∷ []) (job Done 0 0 ∷ []) 255) (0 ∷ 0 ∷ 255 ∷ 0 ∷ 0 ∷ 255 ∷ []) (0 ∷ []) true 10  -- planned position not live
+    ∷ ofTick (state (handed (taskEntry 6 6 2 (2 ∷ 1 ∷ 2 ∷ []) ∷ [])) 1 (3 ∷ []) (job Done 0 0 ∷ []) 255) (0 ∷ 0 ∷ 255 ∷ 0 ∷ 0 ∷ 255 ∷ []) (0 ∷ []) true 0  -- progress ahead of time is still a position
+    ∷ ofTick (state (handed (taskEntry 6 6 2 (2 ∷ 1 ∷ 2 ∷ []) ∷ [])) 0 (0 ∷ []) (job Ready 2 0 ∷ []) 255) (0 ∷ 0 ∷ 255 ∷ 0 ∷ 0 ∷ 255 ∷ []) (0 ∷ []) true 10  -- ready, step 3 of 2
+    ∷ ofTick (state (handed (taskEntry 6 6 2 (2 ∷ 1 ∷ 2 ∷ []) ∷ [])) 0 (0 ∷ []) (job Ready 0 2 ∷ []) 255) (0 ∷ 0 ∷ 255 ∷ 0 ∷ 0 ∷ 255 ∷ []) (0 ∷ []) true 10  -- ready, all slots given, did not run last
+    ∷ ofTick (state (handed (taskEntry 6 6 2 (2 ∷ 1 ∷ 2 ∷ []) ∷ [])) 0 (0 ∷ []) (job Ready 0 2 ∷ []) 0) (0 ∷ 0 ∷ 255 ∷ 0 ∷ 0 ∷ 255 ∷ []) (0 ∷ []) true 0  -- ready, all slots given, ran last
+    ∷ ofTick (state (handed (taskEntry 6 6 2 (2 ∷ 1 ∷ 2 ∷ []) ∷ [])) 0 (0 ∷ []) (job Ready 0 3 ∷ []) 0) (0 ∷ 0 ∷ 255 ∷ 0 ∷ 0 ∷ 255 ∷ []) (0 ∷ []) true 10  -- ready, more than C given
+    ∷ ofTick (state (handed (taskEntry 6 6 2 (2 ∷ 1 ∷ 2 ∷ []) ∷ [])) 0 (0 ∷ []) (job Ready 0 0 ∷ []) 0) (0 ∷ 0 ∷ 255 ∷ 0 ∷ 0 ∷ 255 ∷ []) (0 ∷ []) true 10  -- last runner without a slot given
+    ∷ ofTick (state (handed (taskEntry 6 6 2 (2 ∷ 1 ∷ 2 ∷ []) ∷ [])) 0 (0 ∷ []) (job Done 0 0 ∷ []) 0) (0 ∷ 0 ∷ 255 ∷ 0 ∷ 0 ∷ 255 ∷ []) (0 ∷ []) true 10  -- last runner done
+    ∷ ofTick (state (handed (taskEntry 6 6 2 (2 ∷ 1 ∷ 2 ∷ []) ∷ [])) 0 (0 ∷ []) (job Done 0 0 ∷ []) 1) (0 ∷ 0 ∷ 255 ∷ 0 ∷ 0 ∷ 255 ∷ []) (0 ∷ []) true 10  -- last runner absent
+    ∷ ofTick (state (handed (taskEntry 6 6 2 (2 ∷ 1 ∷ 2 ∷ []) ∷ [])) 0 (0 ∷ []) (job Waiting 0 0 ∷ []) 255) (0 ∷ 0 ∷ 255 ∷ 0 ∷ 0 ∷ 255 ∷ []) (0 ∷ []) true 0  -- waiting after step 1
+    ∷ ofTick (state (handed (taskEntry 6 6 2 (2 ∷ 1 ∷ 2 ∷ []) ∷ [])) 0 (0 ∷ []) (job Waiting 1 0 ∷ []) 255) (0 ∷ 0 ∷ 255 ∷ 0 ∷ 0 ∷ 255 ∷ []) (0 ∷ []) true 10  -- waiting after the last step
+    ∷ ofTick (state (handed (taskEntry 6 6 2 (2 ∷ 1 ∷ 2 ∷ []) ∷ [])) 0 (0 ∷ []) (job Waiting 0 1 ∷ []) 255) (0 ∷ 0 ∷ 255 ∷ 0 ∷ 0 ∷ 255 ∷ []) (0 ∷ []) true 10  -- waiting with slots given
+    ∷ ofTick (state (handed (taskEntry 6 6 2 (2 ∷ 1 ∷ 2 ∷ []) ∷ [])) 0 (0 ∷ []) (job Done 1 0 ∷ []) 255) (0 ∷ 0 ∷ 255 ∷ 0 ∷ 0 ∷ 255 ∷ []) (0 ∷ []) true 10  -- done with a step
+    ∷ ofTick (state (handed (taskEntry 6 6 2 (2 ∷ 1 ∷ 2 ∷ []) ∷ [])) 0 (0 ∷ []) (job (Stopped late) 0 1 ∷ []) 255) (0 ∷ 0 ∷ 255 ∷ 0 ∷ 0 ∷ 255 ∷ []) (0 ∷ []) true 10  -- stopped with slots given
+    ∷ ofTick (state (handed (taskEntry 6 6 2 (2 ∷ 1 ∷ 2 ∷ []) ∷ [])) 0 (0 ∷ []) (job (Stopped late) 0 0 ∷ []) 255) (0 ∷ 0 ∷ 255 ∷ 0 ∷ 0 ∷ 255 ∷ []) (0 ∷ []) true 0  -- stopped
+    ∷ ofTick (state (handed (taskEntry 6 6 2 (2 ∷ 1 ∷ 2 ∷ []) ∷ [])) 0 (0 ∷ 1 ∷ []) (job Done 0 0 ∷ []) 255) (0 ∷ 0 ∷ 255 ∷ 0 ∷ 0 ∷ 255 ∷ []) (0 ∷ []) true 10  -- unused planned progress
+    ∷ ofTick (state (handed (taskEntry 6 6 2 (2 ∷ 1 ∷ 2 ∷ []) ∷ [])) 0 (0 ∷ []) (job Done 0 0 ∷ blankJob ∷ blankJob ∷ blankJob ∷ blankJob ∷ blankJob ∷ blankJob ∷ job Ready 1 0 ∷ []) 255) (0 ∷ 0 ∷ 255 ∷ 0 ∷ 0 ∷ 255 ∷ []) (0 ∷ []) true 10  -- unused job
+    ∷ ofTick (state (record { count = 1; entries = padded 8 blankTask (taskEntry 6 6 2 (2 ∷ 1 ∷ 2 ∷ []) ∷ record { period = 1; deadline = 0; steps = 0; units = replicate 7 0 } ∷ []) }) 0 (0 ∷ []) (job Done 0 0 ∷ []) 255) (0 ∷ 0 ∷ 255 ∷ 0 ∷ 0 ∷ 255 ∷ []) (0 ∷ []) true 10  -- unused task in the set
+    ∷ ofTick (state (handed (taskEntry 6 6 2 (2 ∷ 1 ∷ 2 ∷ 1 ∷ []) ∷ [])) 0 (0 ∷ []) (job Done 0 0 ∷ []) 255) (0 ∷ 0 ∷ 255 ∷ 0 ∷ 0 ∷ 255 ∷ []) (0 ∷ []) true 10  -- unused pattern entry in the set
+    ∷ ofTick (state (handed (taskEntry 6 6 2 (2 ∷ 1 ∷ 2 ∷ []) ∷ [])) 0 (0 ∷ []) (job Ready 1 1 ∷ []) 255) (0 ∷ 0 ∷ 255 ∷ 0 ∷ 0 ∷ 255 ∷ []) (0 ∷ []) true 0  -- ready in a step the plan has not reached is of the form
     ∷ []
 
 -- all of the above, for proofs that compute
 unfoldable pub openCorners : Type 0
-unfolding shownBy shownFrom agrees corners
+unfolding job state shownBy shownFrom agrees corners
 openCorners = Unit {0}

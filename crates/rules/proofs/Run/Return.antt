@@ -58,8 +58,7 @@ module _ (s : List Task) (fit : Fit s) (cs : List ℕ) (S : Schedule s cs) where
   unfolding start
   schedule-returns =
       let l = run-length s (start s) cs (start-length s) in
-      let m = start-length s in
-      (
+      let m = start-length s in (
         (let a = run-slot s (start s) cs in let b = S .long in omega arith),
         ext-getD 0 (run s (start s) cs .progress) (start s .progress) (omega arith) (λ j h. all-zero j (omega arith) ∙ sym (getD-replicate (length s) j 0 0 (omega arith))),
       )
