@@ -1,0 +1,9 @@
+pub mod Lists
+pub mod Text
+pub mod Plain
+pub mod Reader
+pub mod Back
+pub mod Admissible
+pub mod Content
+pub mod Ignored
+pub mod Shown

@@ -1,0 +1,125 @@
+-- The words of a line in the code's terms: what a byte between fields does, and the word that some digits begin.
+use mathlib.Core.Bool.{Bool, true, false, cond, and-false}
+use mathlib.Core.List.{List, [], _∷_, _++_}
+use mathlib.Core.Path.{_≡_, refl, ap, _∙_}
+use Prim.Native.Nat.{ℕ, suc, _+_, _-_, _*_, _≤_, _<_}
+use native.Mathlib.Numerals.{add-one}
+use native.Mathlib.Omega.{arith}
+use borrow.Author.Tests.{ne-eqb, leb-true, le-leb, lt-leb}
+use lib.Dec.{leb}
+use lib.ListN.{length, getD, drop, drop-of-length-le, length-append}
+use lib.Seq.{drop-cons}
+use Rattle.rules.specs.Lists.{allOf, isZero}
+use Rattle.list.proofs.Tests.{and-left, and-right, all-append}
+use Rattle.list.specs.Text.{partsFields, atGap, onto, words}
+use Rattle.list.specs.Reading.{isDigit, isField, numberFrom, number}
+use Rattle.list.specs.Inner.{Begun}
+
+-- ── a word and what is behind it ────────────────────────────────────────────
+
+-- the bytes up to what parts fields
+unfoldable pub front : List ℕ → List ℕ
+front [] = []
+front (b ∷ bs) = cond (partsFields b) [] (b ∷ front bs)
+
+-- the words behind those bytes
+unfoldable pub behind : List ℕ → List (List ℕ)
+behind [] = []
+behind (b ∷ bs) = cond (partsFields b) (words bs) (behind bs)
+
+-- a byte that doesn't part fields begins a word
+pub word-at : (b : ℕ) (bs : List ℕ) → partsFields b ≡ false → words (b ∷ bs) ≡ (b ∷ front bs) ∷ behind bs
+unfolding words atGap front behind onto
+word-at b [] e = rw e
+word-at b (a ∷ bs) e = rw e (go (partsFields a) refl (λ h. word-at a bs h))
+  where
+    go : (t : Bool) → partsFields a ≡ t → (partsFields a ≡ false → words (a ∷ bs) ≡ (a ∷ front bs) ∷ behind bs)
+        → cond (partsFields a) ((b ∷ []) ∷ words (a ∷ bs)) (onto b (words (a ∷ bs))) ≡ (b ∷ cond (partsFields a) [] (a ∷ front bs)) ∷ cond (partsFields a) (words bs) (behind bs)
+    go true h f = rw h
+    go false h f = rw (f h) (rw h)
+
+-- ── from a place on ─────────────────────────────────────────────────────────
+
+module _ (s : List ℕ) (i : ℕ) where
+  pub words-on : i < length s → partsFields (getD s i 0) ≡ true → words (drop i s) ≡ words (drop (i + 1) s)
+  unfolding words
+  words-on h e = rw (add-one, drop-cons s i 0, e)
+
+  pub words-off : i < length s → partsFields (getD s i 0) ≡ false → isZero (length (words (drop i s))) ≡ false
+  unfolding isZero
+  words-off h e = rw (drop-cons s i 0, word-at (getD s i 0) (drop (suc i) s) e) (ne-eqb (suc (length (behind (drop (suc i) s)))) 0 (omega arith))
+
+  pub words-end : length s ≤ i → isZero (length (words (drop i s))) ≡ true
+  unfolding words isZero
+  words-end h = rw (drop-of-length-le s h)
+
+-- ── digits ──────────────────────────────────────────────────────────────────
+
+pub digit-low : (b : ℕ) → isDigit b ≡ true → 48 ≤ b
+unfolding isDigit
+digit-low b e = leb-true 48 b (and-left (leb 48 b) (leb b 57) e)
+
+pub digit-high : (b : ℕ) → isDigit b ≡ true → b ≤ 57
+unfolding isDigit
+digit-high b e = leb-true b 57 (and-right (leb 48 b) (leb b 57) e)
+
+-- a digit parts no fields
+pub digit-inside : (b : ℕ) → isDigit b ≡ true → partsFields b ≡ false
+unfolding partsFields
+digit-inside b e = let h = digit-low b e in ne-eqb b 32 (omega arith)
+
+-- digits before a text join its first word
+front-digits : (p bs : List ℕ) → allOf isDigit p ≡ true → front (p ++ bs) ≡ p ++ front bs
+unfolding front allOf
+front-digits [] bs e = refl
+front-digits (b ∷ p) bs e =
+    rw (digit-inside b (and-left (isDigit b) (allOf isDigit p) e), front-digits p bs (and-right (isDigit b) (allOf isDigit p) e))
+
+behind-digits : (p bs : List ℕ) → allOf isDigit p ≡ true → behind (p ++ bs) ≡ behind bs
+unfolding behind allOf
+behind-digits [] bs e = refl
+behind-digits (b ∷ p) bs e =
+    rw (digit-inside b (and-left (isDigit b) (allOf isDigit p) e)) (behind-digits p bs (and-right (isDigit b) (allOf isDigit p) e))
+
+-- the word that a beginning of a field begins
+pub begun-word : (p bs : List ℕ) (d v : ℕ) → Begun p d v → words (p ++ bs) ≡ (p ++ front bs) ∷ behind bs
+unfolding allOf
+begun-word [] bs d v e = absurd (omega (arith, e .some, e .many))
+begun-word (b ∷ p) bs d v e =
+    let h : isDigit b ≡ true = and-left (isDigit b) (allOf isDigit p) (e .all) in
+    let k : allOf isDigit p ≡ true = and-right (isDigit b) (allOf isDigit p) (e .all) in
+    word-at b (p ++ bs) (digit-inside b h) ∙ rw (front-digits p bs k, behind-digits p bs k)
+
+number-more : (v : ℕ) (p : List ℕ) (b : ℕ) → numberFrom v (p ++ b ∷ []) ≡ numberFrom v p * 10 + (b - 48)
+unfolding numberFrom
+number-more v [] b = refl
+number-more v (a ∷ p) b = number-more (v * 10 + (a - 48)) p b
+
+-- a digit more
+pub begun-more : (p : List ℕ) (d v b : ℕ) → Begun p d v → isDigit b ≡ true → Begun (p ++ b ∷ []) (d + 1) (v * 10 + (b - 48))
+unfolding number allOf
+begun-more p d v b e h = record {
+  some = omega arith;
+  all = all-append isDigit p (b ∷ []) ∙ rw (e .all, h);
+  many = length-append p (b ∷ []) ∙ omega (arith, e .many);
+  worth = number-more 0 p b ∙ ap (λ (n : ℕ). n * 10 + (b - 48)) (e .worth);
+}
+
+-- the first digit
+pub begun-one : (b : ℕ) → isDigit b ≡ true → Begun (b ∷ []) 1 (0 * 10 + (b - 48))
+unfolding number numberFrom allOf
+begun-one b h = record { some = omega arith; all = rw h; many = refl; worth = refl }
+
+-- a whole field of up to four digits
+pub begun-field : (p : List ℕ) (d v : ℕ) → Begun p d v → d ≤ 4 → isField p ≡ true
+unfolding isField
+begun-field p d v e h = rw (e .all) (le-leb (length p) 4 (omega (arith, e .many)))
+
+-- a word in which another byte stands, and one of five digits or more
+pub other-byte : (p bs : List ℕ) (b : ℕ) → isDigit b ≡ false → isField (p ++ b ∷ bs) ≡ false
+unfolding isField allOf
+other-byte p bs b e = rw (all-append isDigit p (b ∷ bs), e, and-false)
+
+pub too-long : (p bs : List ℕ) (b : ℕ) → length p ≡ 4 → isField (p ++ b ∷ bs) ≡ false
+unfolding isField
+too-long p bs b e = rw (lt-leb (length (p ++ b ∷ bs)) 4 (omega (arith, length-append p (b ∷ bs))), and-false)
