@@ -17,7 +17,8 @@ use Rattle.tasks.specs.declared.TaskSet.{TaskSet}
 use Rattle.tasks.specs.Views.{recordOf}
 use Rattle.list.specs.declared.Reading.{Reading}
 use Rattle.list.specs.Text.{endsLine, onto, lines}
-use Rattle.list.specs.Reading.{skipped, lineTask, lineRefusal, ReadReply, noSet, refusedWhole, refusedLine, accepted, finish, goOn, readFrom, readList, shown, replyOf}
+use Rattle.rules.specs.States.{blankSet}
+use Rattle.list.specs.Reading.{skipped, lineTask, lineRefusal, ReadReply, refusedWhole, refusedLine, accepted, finish, goOn, readFrom, readList, shown, replyOf}
 use Rattle.list.specs.Inner.{refusalAfter, tasksAfter}
 use Rattle.list.proofs.Lines.{firstLine, first-short, line-fits, lines-from}
 
@@ -90,8 +91,8 @@ pub record Progress (s : List ℕ) (set : TaskSet) (i at : ℕ) : Type 0 where
   pub holds : recordOf set ≡ accepted tasks .set
   pub reads : readList s ≡ readFrom i at tasks (lines (drop at s))
 
-pub progress-begins : (s : List ℕ) (set : TaskSet) → length s ≤ 4096 → recordOf set ≡ noSet → Progress s set 1 0
-unfolding accepted noSet padded
+pub progress-begins : (s : List ℕ) (set : TaskSet) → length s ≤ 4096 → recordOf set ≡ blankSet → Progress s set 1 0
+unfolding accepted blankSet padded
 progress-begins s set h e = record { short = h; place = omega arith; few = omega arith; tasks = []; holds = e; reads = list-begins s h }
 
 module _ (s : List ℕ) (set : TaskSet) (i at n : ℕ) (p : Progress s set i at) (h : at < length s) (e : n ≡ length (firstLine (drop at s))) where

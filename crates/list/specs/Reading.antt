@@ -1,13 +1,13 @@
 -- Document 01, "The list": what a line says, and the reply to a list.
-use mathlib.Core.Bool.{Bool, true, false, not, cond, _&&_, _||_}
+use mathlib.Core.Bool.{Bool, false, cond, _&&_, _||_}
 use mathlib.Core.List.{List, [], _∷_, _++_, map}
 use Prim.Native.Nat.{ℕ, zero, suc, _+_, _-_, _*_, _/_}
 use lib.Dec.{leb, ltb, eqb}
-use lib.ListN.{length, getD, take, drop, replicate}
+use lib.ListN.{length, getD, take, drop}
 use Rattle.rules.specs.Lists.{allOf, isZero, padded}
 use Rattle.rules.specs.Hyper.{hyper}
 use Rattle.rules.specs.Records.{TaskRecord, SetRecord, taskRefusal, tasksIn}
-use Rattle.rules.specs.States.{blankTask}
+use Rattle.rules.specs.States.{blankTask, blankSet}
 use Rattle.tasks.specs.Views.{recordOf}
 use Rattle.list.specs.Text.{lines, words}
 use Rattle.list.specs.declared.Reading.{Reading}
@@ -69,17 +69,13 @@ pub record ReadReply : Type 0 where
   pub size : ℕ
   pub set : SetRecord
 
--- the set that a refusal gives: no task, zeros throughout
-unfoldable pub noSet : SetRecord
-noSet = record { count = 0; entries = replicate 8 blankTask }
-
--- "Refusals 1, 6 and none show an empty part at the list's start and line 0."
+-- a refusal gives a set of no task, zeros throughout; "Refusals 1, 6 and none show an empty part at the list's start and line 0."
 unfoldable pub refusedWhole : ℕ → ReadReply
-refusedWhole n = record { refusal = n; line = 0; start = 0; size = 0; set = noSet }
+refusedWhole n = record { refusal = n; line = 0; start = 0; size = 0; set = blankSet }
 
 -- "A refused line is shown as it stands in the list, without its line feed, with its number counted from 1 over all lines."
 unfoldable pub refusedLine : ℕ → ℕ → ℕ → ℕ → ReadReply
-refusedLine n i at size = record { refusal = n; line = i; start = at; size = size; set = noSet }
+refusedLine n i at size = record { refusal = n; line = i; start = at; size = size; set = blankSet }
 
 unfoldable pub accepted : List TaskRecord → ReadReply
 accepted rs = record { refusal = 0; line = 0; start = 0; size = 0; set = record { count = length rs; entries = padded 8 blankTask rs } }
@@ -113,5 +109,5 @@ replyOf r = record { refusal = r .refusal; line = r .line; start = r .start; siz
 
 -- all of the above, for proofs that compute
 unfoldable pub openReading : Type 0
-unfolding isDigit isField numberFrom number isComment skipped rightCount taskFrom lineTask wellFormed lineRefusal noSet refusedWhole refusedLine accepted finish goOn readFrom readList shown replyOf
+unfolding isDigit isField numberFrom number isComment skipped rightCount taskFrom lineTask wellFormed lineRefusal refusedWhole refusedLine accepted finish goOn readFrom readList shown replyOf
 openReading = Unit {0}

@@ -10,8 +10,9 @@ ghost use mathlib.Core.List.{List, [], _∷_, _++_};
 ghost use mathlib.Core.Path.{_≡_};
 ghost use Prim.Native.Nat.{_<_};
 ghost use Rattle.rules.specs.Records.{TaskRecord};
+ghost use Rattle.rules.specs.States.{blankSet};
 ghost use Rattle.tasks.specs.Views.{entryOf, recordOf};
-ghost use Rattle.list.specs.Reading.{replyOf, noSet, refusedLine, accepted, readList, shown};
+ghost use Rattle.list.specs.Reading.{replyOf, refusedLine, accepted, readList, shown};
 ghost use Rattle.list.specs.Inner.{refusalAfter, tasksAfter};
 
 mod fields;
@@ -35,7 +36,7 @@ struct After {
 
 // The set with no task and zeros throughout.
 fn no_set() -> TaskSet
-    ensures { λ r. ⌜ recordOf r ≡ noSet ⌝ }
+    ensures { λ r. ⌜ recordOf r ≡ blankSet ⌝ }
 {
     let none = no_task();
     TaskSet {

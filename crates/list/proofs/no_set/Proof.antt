@@ -2,7 +2,7 @@
 use borrow.Author.Needs.{needs}
 use Rattle.rules.specs.Lists.{tabulate}
 use Rattle.tasks.specs.Views.{recordOf}
-use Rattle.list.specs.Reading.{noSet}
+use Rattle.rules.specs.States.{blankSet}
 use Rattle.list.proofs.no_set.Statement.{statement}
 use Rattle.list.proofs.no_set.Tie as tie
 
@@ -10,7 +10,7 @@ no-task-requires : tie.Need-no-task-requires
 no-task-requires c κs = search needs
 
 returns : tie.Need-returns
-unfolding recordOf noSet tabulate
+unfolding recordOf blankSet tabulate
 returns c = rw (c .no-task .ensures)
 
 pub no-set-spec : {M : Type 1} → statement M
