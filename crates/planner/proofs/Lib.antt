@@ -1,0 +1,10 @@
+pub mod Records
+pub mod Marks
+pub mod Loops
+pub mod Searching
+pub mod Meets
+pub mod Bounds
+pub mod Steps
+pub mod Repeats
+pub mod Replies
+pub mod Promises
