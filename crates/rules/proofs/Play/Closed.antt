@@ -44,7 +44,7 @@ formed-job τ Waiting b k g t = let a = T-and (ltb (suc (suc (k + k))) (length (
 formed-job τ Done b k g t = let a = T-and (isZero k) _ t in (tt, (zero-of k (a .0), zero-of g (a .1)))
 formed-job τ (Stopped c) b k g t = let a = T-and (isZero k) _ t in (tt, (zero-of k (a .0), zero-of g (a .1)))
 
-formed-jobs : (last i : ℕ) (s : List Task) (js : List Job) → length js ≡ length s → T (jobsForm last i s js) → (j : ℕ) → j < length s → T (jobForm (getD s j noTask) (eqb last (i + j)) (getD js j finished))
+pub formed-jobs : (last i : ℕ) (s : List Task) (js : List Job) → length js ≡ length s → T (jobsForm last i s js) → (j : ℕ) → j < length s → T (jobForm (getD s j noTask) (eqb last (i + j)) (getD js j finished))
 unfolding jobsForm
 formed-jobs last i [] js e t j h = let z : ⊥ = omega arith in absurd z
 formed-jobs last i (τ ∷ s) [] e t j h = let z : ⊥ = omega arith in absurd z

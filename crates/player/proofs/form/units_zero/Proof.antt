@@ -1,0 +1,52 @@
+-- `player::form::units_zero` tests the units of a task from a place on. The invariant: the tests from place i on tell of all. The measure is what is left. Assumes nothing.
+use Prim.Native.Nat.{_-_}
+use lib.ListN.{getD}
+use borrow.Author.Needs.{needs}
+use Rattle.rules.specs.Lists.{isZero}
+use Rattle.tasks.specs.Views.{entryOf}
+use Rattle.player.proofs.Forms.{not-zero, is-zero, Rest, rest-start, rest-step, rest-fail, rest-pass}
+use Rattle.player.proofs.form.units_zero.Statement.{statement}
+use Rattle.player.proofs.form.units_zero.Tie as tie
+
+abbrev Inv-loop : tie.InvT-loop
+Inv-loop from p i₀ i = Rest isZero (λ k. getD p k 0) 7 from i
+
+abbrev μ-loop : tie.MeasureT-loop
+μ-loop from p i₀ i = 7 - i
+
+loop-holds : tie.Need-loop-holds Inv-loop μ-loop
+loop-holds c = rest-start
+
+array-read-if1 : tie.Need-array-read-if1 Inv-loop μ-loop
+array-read-if1 c = search needs
+
+returns : tie.Need-returns Inv-loop μ-loop
+unfolding entryOf
+returns c = rest-fail (c .before .before .loop .inv) (search needs) (not-zero _ (c .if1 .taken))
+
+add-i : tie.Need-add-i Inv-loop μ-loop
+add-i c = search needs
+
+loop-less : tie.Need-loop-less Inv-loop μ-loop
+loop-less c = search needs
+
+loop-again : tie.Need-loop-again Inv-loop μ-loop
+loop-again c = rest-step (c .before .before .loop .inv) (search needs) (is-zero _ (c .if1 .left))
+
+returns-2 : tie.Need-returns-2 Inv-loop μ-loop
+unfolding entryOf
+returns-2 c = rest-pass (c .before .loop .inv) (search needs)
+
+pub units-zero-spec : {M : Type 1} → statement M
+units-zero-spec =
+    tie.close
+    (tie.spec
+    Inv-loop
+    μ-loop
+    loop-holds
+    array-read-if1
+    returns
+    add-i
+    loop-less
+    loop-again
+    returns-2)
