@@ -1,0 +1,19 @@
+/* Measuring two ways to do the same work, in turns, within one process. */
+#ifndef MEASURE_H
+#define MEASURE_H
+
+/* Does the work once. */
+typedef void work(void *context);
+
+/* Seconds of processor time for doing the work once, each the median of several runs. */
+struct times {
+    double library;
+    double other;
+};
+
+struct times measure(work *library, work *other, void *context);
+
+/* The time in a unit that suits it, in a text that stays until the fourth next call. */
+const char *in_words(double seconds);
+
+#endif

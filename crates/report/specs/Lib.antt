@@ -1,0 +1,4 @@
+pub mod Texts
+pub mod Put
+pub mod Reports
+pub mod Help
