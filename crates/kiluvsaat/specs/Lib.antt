@@ -1,0 +1,4 @@
+pub mod Bytes
+pub mod Widths
+pub mod Boundary
+pub mod Plans
