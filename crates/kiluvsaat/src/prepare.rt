@@ -18,8 +18,9 @@ pub extern "C" fn kiluvsaat_read(list: &[u8], set: &mut [u8]) -> u8
     ensures buffer { λ _. ⌜ now (set .exit) ≡ readBuffer (now (list .entry)) (now (set .entry)) ⌝ }
 {
     let reply = read(list);
-    if reply.refusal != 0 {
-        return reply.refusal;
+    let refusal = reply.refusal;
+    if refusal != 0 {
+        return refusal;
     }
     if set.len() < 97 {
         return 8;
