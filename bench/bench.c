@@ -3,6 +3,7 @@
  * bench tick FILE             a row: ticks of the library and of the twin
  * bench start FILE            a row: starts of the library and of the twin
  * bench read                  rows: reading by the library and by the twin
+ * bench stack FILE            rows: stack of the library's functions, on a feasible list
  * bench text                  what `plan` writes for the list on standard input, by the
  * twin
  *
@@ -394,12 +395,36 @@ static void read_row(const char *name, struct list *list)
     print_ratio(times, 0);
 }
 
+/* Eight lines of nine fields, all as long as can be, each filled up to a length. */
+static struct list longest_lines(int length)
+{
+    struct list list = {0};
+    char line[520];
+
+    for (unsigned i = 0; i < KILUVSAAT_TASKS_MAX; i++) {
+        snprintf(line, sizeof line, "%*s\n", length - 1,
+                 "4096 4096 0255 0255 0255 0255 0255 0255 0255");
+        add_line(&list, line);
+    }
+    return list;
+}
+
+/* One task in a line of 4,096 bytes, all but its fields spaces. */
+static struct list spaced_line(void)
+{
+    struct list list = {.length = KILUVSAAT_LIST_MAX};
+
+    memset(list.bytes, ' ', sizeof list.bytes);
+    memcpy(list.bytes, "1 1 1", 5);
+    return list;
+}
+
 static void read_rows(void)
 {
     struct list comments = {0};
-    struct list fields = {0};
-    struct list spaces = {0};
-    char line[513];
+    struct list fields = longest_lines(0);
+    struct list filled = longest_lines(512);
+    struct list spaced = spaced_line();
 
     while (comments.length + 64 < KILUVSAAT_LIST_MAX)
         add_line(&comments,
@@ -407,15 +432,34 @@ static void read_rows(void)
     while (comments.length + 6 < KILUVSAAT_LIST_MAX)
         add_line(&comments, "#\n");
     add_line(&comments, "1 1 1\n");
-    for (unsigned i = 0; i < KILUVSAAT_TASKS_MAX; i++) {
-        add_line(&fields, "4096 4096 0255 0255 0255 0255 0255 0255 0255\n");
-        snprintf(line, sizeof line, "%511s\n",
-                 "4096 4096 0255 0255 0255 0255 0255 0255 0255");
-        add_line(&spaces, line);
-    }
     read_row("comments and one task", &comments);
     read_row("eight lines of nine longest fields", &fields);
-    read_row("the same, each filled up with spaces", &spaces);
+    read_row("the same, each filled up with spaces", &filled);
+    read_row("one task and 4,091 spaces", &spaced);
+}
+
+/* ---- stack ---- */
+
+static void stack_row(const char *function, const char *input, work *work, void *context)
+{
+    printf("| %s | %s | %zu |\n", function, input, stack_of(work, context));
+}
+
+static void stack_rows(const char *path)
+{
+    struct playing *playing = playing_of(path);
+    struct list fields = longest_lines(0);
+    struct list spaced = spaced_line();
+
+    memcpy(planning.set, playing->string, sizeof planning.set);
+    planning.tasks = playing->set.count;
+    lend_room(&planning, MOST_RECORDS);
+    stack_row("kiluvsaat_read", "eight lines of nine longest fields", read_by_library,
+              &fields);
+    stack_row("kiluvsaat_read", "one task and 4,091 spaces", read_by_library, &spaced);
+    stack_row("kiluvsaat_plan", "the list", plan_by_library, &planning);
+    stack_row("kiluvsaat_start", "the list", start_by_library, playing);
+    stack_row("kiluvsaat_tick", "the list", play_by_library, playing);
 }
 
 /* ---- the program ---- */
@@ -447,6 +491,8 @@ int main(int argc, char **argv)
         start_row(argv[2]);
     else if (strcmp(what, "read") == 0)
         read_rows();
+    else if (strcmp(what, "stack") == 0 && argc > 2)
+        stack_rows(argv[2]);
     else if (strcmp(what, "text") == 0)
         write_text();
     else
