@@ -19,8 +19,7 @@
  *
  * Lengths count elements: bytes, or the 16-bit numbers of the planner's area.
  *
- * Stack, as tests/boundary measures it: at most 8 KB; kiluvsaat_read and kiluvsaat_refused_line at most 512 KB, which a
- * list of one long line takes.
+ * Stack, as tests/boundary measures it: at most 8 KB.
  *
  * Link with -lkiluvsaat (x86-64, System V calls), which needs memcpy, memmove, memset and memcmp at most. The header
  * needs stdint.h and stddef.h alone; C99 or later, or C++11 or later.

@@ -118,8 +118,8 @@ static struct {
     size_t most; /* that the header promises */
     size_t taken;
 } functions[] = {
-    {"read", call_read, 512 * KILOBYTE, 0},
-    {"refused_line", call_refused_line, 512 * KILOBYTE, 0},
+    {"read", call_read, 8 * KILOBYTE, 0},
+    {"refused_line", call_refused_line, 8 * KILOBYTE, 0},
     {"slots", call_slots, 8 * KILOBYTE, 0},
     {"plan", call_plan, 8 * KILOBYTE, 0},
     {"start", call_start, 8 * KILOBYTE, 0},

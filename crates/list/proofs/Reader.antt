@@ -2,17 +2,18 @@
 use mathlib.Core.Bool.{true, false}
 use mathlib.Core.List.{List, [], _∷_, _++_, append-nil, append-assoc}
 use mathlib.Core.Path.{_≡_, refl, sym, ap, _∙_}
-use Prim.Native.Nat.{ℕ, suc, _+_, _-_, _*_, _^_, _≤_, _<_}
+use Prim.Native.Nat.{ℕ, zero, suc, _+_, _-_, _*_, _^_, _≤_, _<_}
 use native.Mathlib.Nat.{lt-of-lt-of-le, pow-le-pow-right, pow-suc}
 use native.Mathlib.Numerals.{add-one}
 use native.Mathlib.Omega.{arith}
 use lib.Dec.{lit<}
-use lib.ListN.{length, getD, take, drop}
-use lib.Seq.{take-length, append-snoc}
+use lib.ListN.{length, getD, take, drop, length-drop}
+use lib.Seq.{take-all, take-length, append-snoc}
+use Rattle.rules.proofs.Lists.{clash-bool}
 use Rattle.list.specs.declared.fields.Fields.{Fields}
 use Rattle.list.specs.Text.{partsFields, words}
 use Rattle.list.specs.Reading.{isDigit}
-use Rattle.list.specs.Inner.{noFields, fieldsOf, oneMore, Begun}
+use Rattle.list.specs.Inner.{GapSize, noFields, fieldsOf, oneMore, Begun}
 use Rattle.list.proofs.Words.{front, behind, word-at, begun-word, begun-field, other-byte, too-long}
 use Rattle.list.proofs.Numbers.{one-more, word-bad, word-tenth}
 
@@ -29,11 +30,15 @@ nothing [] e = refl
 nothing (b ∷ l) e = absurd (omega arith)
 
 -- the words of a line by its first byte
-module _ (l : List ℕ) (n : length l ≡ 0 → ⊥) where
-  words-parted : partsFields (getD l 0 0) ≡ true → words l ≡ words (rest l)
-  unfolding words
-  words-parted h = ap words (whole l n) ∙ rw h
+-- a gap at the start of a line has a byte at least, and what is behind it has the line's words
+pub some-gap : (l : List ℕ) (r : ℕ) → (length l ≡ 0 → ⊥) → partsFields (getD l 0 0) ≡ true → GapSize l r → 0 < r
+some-gap l (suc r) n h g = omega arith
+some-gap l zero n h g = clash-bool (sym (g .ends (omega arith)) ∙ h)
 
+pub gap-passed : (ws : List (List ℕ)) (l : List ℕ) (r : ℕ) → GapSize l r → fieldsOf (ws ++ words (take (length l - r) (drop r l))) ≡ fieldsOf (ws ++ words l)
+gap-passed ws l r g = ap (λ (v : List (List ℕ)). fieldsOf (ws ++ v)) (ap words (take-all (length l - r) (drop r l) (omega (arith, length-drop r l))) ∙ sym (g .same))
+
+module _ (l : List ℕ) (n : length l ≡ 0 → ⊥) where
   words-begun : partsFields (getD l 0 0) ≡ false → words l ≡ (getD l 0 0 ∷ front (rest l)) ∷ behind (rest l)
   words-begun h = ap words (whole l n) ∙ word-at (getD l 0 0) (rest l) h
 
@@ -57,9 +62,6 @@ module _ (f : Fields) (ws : List (List ℕ)) (e : f ≡ fieldsOf ws) (l : List �
   gap-end h = rw (nothing l h, append-nil) e
 
   module _ (n : length l ≡ 0 → ⊥) where
-    pub gap-parted : partsFields (getD l 0 0) ≡ true → fieldsOf (ws ++ words (rest l)) ≡ fieldsOf (ws ++ words l)
-    gap-parted h = rw (words-parted l n h)
-
     pub gap-other : partsFields (getD l 0 0) ≡ false → isDigit (getD l 0 0) ≡ false → noFields ≡ fieldsOf (ws ++ words l)
     gap-other h g = rw (words-begun l n h) (word-bad ws (behind (rest l)) (getD l 0 0 ∷ front (rest l)) (other-byte [] (front (rest l)) (getD l 0 0) g))
 

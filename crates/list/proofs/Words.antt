@@ -1,19 +1,21 @@
 -- The words of a line in the code's terms: what a byte between fields does, and the word that some digits begin.
 use mathlib.Core.Bool.{Bool, true, false, cond, and-false}
 use mathlib.Core.List.{List, [], _∷_, _++_}
-use mathlib.Core.Path.{_≡_, refl, ap, _∙_}
+use mathlib.Core.Path.{_≡_, refl, sym, ap, _∙_}
+use mathlib.Core.Logic.{_⊎_, inl, inr}
 use Prim.Native.Nat.{ℕ, suc, _+_, _-_, _*_, _≤_, _<_}
 use native.Mathlib.Numerals.{add-one}
 use native.Mathlib.Omega.{arith}
-use borrow.Author.Tests.{ne-eqb, leb-true, le-leb, lt-leb}
-use lib.Dec.{leb}
+use borrow.Author.Tests.{eq-eqb, ne-eqb, leb-true, le-leb, lt-leb}
+use lib.Dec.{leb, eqb}
 use lib.ListN.{length, getD, drop, drop-of-length-le, length-append}
 use lib.Seq.{drop-cons}
 use Rattle.rules.specs.Lists.{allOf, isZero}
+use Rattle.rules.proofs.Laws.{le-or-lt}
 use Rattle.list.proofs.Tests.{and-left, and-right, all-append}
 use Rattle.list.specs.Text.{partsFields, atGap, onto, words}
-use Rattle.list.specs.Reading.{isDigit, isField, numberFrom, number}
-use Rattle.list.specs.Inner.{Begun}
+use Rattle.list.specs.Reading.{isDigit, isField, numberFrom, number, isComment, skipped}
+use Rattle.list.specs.Inner.{GapSize, Begun}
 
 -- ── a word and what is behind it ────────────────────────────────────────────
 
@@ -123,3 +125,18 @@ other-byte p bs b e = rw (all-append isDigit p (b ∷ bs), e, and-false)
 pub too-long : (p bs : List ℕ) (b : ℕ) → length p ≡ 4 → isField (p ++ b ∷ bs) ≡ false
 unfolding isField
 too-long p bs b e = rw (lt-leb (length (p ++ b ∷ bs)) 4 (omega (arith, length-append p (b ∷ bs))), and-false)
+
+-- ── skipped lines ───────────────────────────────────────────────────────────
+
+pub commented : (l : List ℕ) → isComment l ≡ true → true ≡ skipped l
+unfolding skipped
+commented l e = rw e
+
+-- a line that is no comment is skipped if its gap goes to its end
+pub by-gap : (l : List ℕ) (r : ℕ) → isComment l ≡ false → GapSize l r → eqb r (length l) ≡ skipped l
+unfolding skipped
+by-gap l r n g = rw (n, g .same) (go (le-or-lt (length l) r))
+  where
+    go : (length l ≤ r) ⊎ (r < length l) → eqb r (length l) ≡ isZero (length (words (drop r l)))
+    go (inl h) = let w = g .within in eq-eqb r (length l) (omega arith) ∙ sym (words-end l r h)
+    go (inr h) = ne-eqb r (length l) (λ e. omega arith) ∙ sym (words-off l r h (g .ends h))

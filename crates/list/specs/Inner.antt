@@ -2,14 +2,23 @@
 use mathlib.Core.Bool.{true, false, cond, _&&_}
 use mathlib.Core.List.{List, [], _∷_, _++_, map}
 use mathlib.Core.Path.{_≡_}
-use Prim.Native.Nat.{ℕ, _+_, _<_}
+use Prim.Native.Nat.{ℕ, _+_, _≤_, _<_}
 use lib.Dec.{leb}
-use lib.ListN.{length, replicate, set}
+use lib.ListN.{length, getD, drop, replicate, set}
 use Rattle.rules.specs.Lists.{allOf, padded}
 use Rattle.rules.specs.Records.{TaskRecord, allBetween}
+use Rattle.list.specs.Text.{partsFields, words}
 use Rattle.list.specs.Reading.{isDigit, isField, number, skipped, lineTask, lineRefusal}
 use Rattle.list.specs.declared.fields.Fields.{Fields}
 use Rattle.list.specs.declared.line.Units.{Units}
+
+-- ── gaps ────────────────────────────────────────────────────────────────────
+
+-- r bytes that part fields stand at the start of a line, and no more
+pub record GapSize (line : List ℕ) (r : ℕ) : Type 0 where
+  pub within : r ≤ length line
+  pub same : words line ≡ words (drop r line)
+  pub ends : r < length line → partsFields (getD line r 0) ≡ false
 
 -- ── fields ──────────────────────────────────────────────────────────────────
 

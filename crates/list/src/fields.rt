@@ -1,4 +1,5 @@
 // The fields of a line as numbers: a field reader and a gap reader that call each other while the bytes left fall.
+use crate::text::gap_size;
 use crate::text::parts_fields;
 ghost use mathlib.Core.Bool.{true};
 ghost use mathlib.Core.Path.{_≡_};
@@ -91,7 +92,8 @@ fn gap(line: &[u8], f: Fields) -> Fields
     }
     let b = line[0];
     if parts_fields(b) {
-        return gap(&line[1..], f);
+        let at = gap_size(line);
+        return gap(&line[at..], f);
     }
     if !is_digit(b) {
         return bad();

@@ -5,6 +5,7 @@ ghost use Prim.Native.Nat.{_≤_};
 ghost use lib.ListN.{length, getD, drop};
 ghost use Rattle.list.specs.Text.{endsLine, partsFields, lines};
 ghost use Rattle.list.specs.Reading.{isComment, skipped};
+ghost use Rattle.list.specs.Inner.{GapSize};
 
 // What ends a line: a line feed.
 fn ends_line(b: u8) -> bool
@@ -45,6 +46,21 @@ fn is_comment(line: &[u8]) -> bool
     line[0] == 35
 }
 
+// The bytes that part fields at the start of a line.
+pub fn gap_size(line: &[u8]) -> usize
+    ensures { λ r. ⌜ GapSize (now (line .entry)) r ⌝ }
+{
+    let mut i = 0;
+    while i < line.len() {
+        let b = line[i];
+        if !parts_fields(b) {
+            return i;
+        }
+        i += 1;
+    }
+    i
+}
+
 // A line that says nothing: a comment, or only what parts fields.
 pub fn is_skipped(line: &[u8]) -> bool
     ensures { λ r. ⌜ r ≡ skipped (now (line .entry)) ⌝ }
@@ -52,13 +68,5 @@ pub fn is_skipped(line: &[u8]) -> bool
     if is_comment(line) {
         return true;
     }
-    let mut i = 0;
-    while i < line.len() {
-        let b = line[i];
-        if !parts_fields(b) {
-            return false;
-        }
-        i += 1;
-    }
-    true
+    gap_size(line) == line.len()
 }

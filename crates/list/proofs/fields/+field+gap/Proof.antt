@@ -11,7 +11,7 @@ use lib.ListN.{length, getD}
 use Rattle.list.specs.declared.fields.Fields.{Fields}
 use Rattle.list.specs.Inner.{oneMore}
 use Rattle.list.proofs.Words.{digit-high, begun-more, begun-one}
-use Rattle.list.proofs.Reader.{gap-end, gap-parted, gap-other, gap-tenth, gap-digit, field-put, field-end, field-parted, field-other, field-long, field-digit, small, grows}
+use Rattle.list.proofs.Reader.{gap-end, some-gap, gap-passed, gap-other, gap-tenth, gap-digit, field-put, field-end, field-parted, field-other, field-long, field-digit, small, grows}
 use Rattle.list.proofs.fields.field.Reads as field
 use Rattle.list.proofs.fields.field.Kinds as field-kinds
 use Rattle.list.proofs.fields.+field+gap.Lts-field as field-lts
@@ -22,6 +22,7 @@ use Rattle.list.proofs.fields.bad.Reads as bad-reads
 use Rattle.list.proofs.fields.is_digit.Reads as is-digit-reads
 use Rattle.list.proofs.fields.put.Reads as put-reads
 use Rattle.list.proofs.fields.with_digit.Reads as with-digit-reads
+use Rattle.list.proofs.text.gap_size.Reads as gap-size-reads
 use Rattle.list.proofs.text.parts_fields.Reads as parts-fields-reads
 use Rattle.list.proofs.fields.+field+gap.{statement}
 use Rattle.list.proofs.fields.+field+gap.Tie.{close}
@@ -67,6 +68,8 @@ abbrev gap-calls : ℕ → gap-lts.Claims
 gap-calls t = (
   parts-fields-reads.Asked,
   parts-fields-reads.Learnt,
+  gap-size-reads.Asked,
+  gap-size-reads.Learnt,
   gap-below t,
   gap.Post,
   is-digit-reads.Asked,
@@ -193,6 +196,9 @@ gap-shared-slice-read-b t c = search needs
 gap-parts-fields-requires : (t : ℕ) → gap-lts.Need-parts-fields-requires (gap-calls t) (gap-at t) gap.Post
 gap-parts-fields-requires t c κs = search needs
 
+gap-gap-size-requires : (t : ℕ) → gap-lts.Need-gap-size-requires (gap-calls t) (gap-at t) gap.Post
+gap-gap-size-requires t c κs = search needs
+
 gap-sub-gap : (t : ℕ) → gap-lts.Need-sub-gap (gap-calls t) (gap-at t) gap.Post
 gap-sub-gap t c = search needs
 
@@ -203,13 +209,17 @@ gap-part-gap-end : (t : ℕ) → gap-lts.Need-part-gap-end (gap-calls t) (gap-at
 gap-part-gap-end t c = search needs
 
 gap-gap-requires : (t : ℕ) → gap-lts.Need-gap-requires (gap-calls t) (gap-at t) gap.Post
-gap-gap-requires t c κs = search needs
+gap-gap-requires t c κs =
+    let a = c .before .before .before .before .before .before .before .args in
+    let g = c .before .gap-size .ensures in
+    let h = some-gap (a .line .now) (c .before .gap-size .result) (c .before .before .before .before .before .if1 .left) (sym (c .before .before .before .parts-fields .ensures) ∙ c .before .before .if2 .taken) g in
+    (search needs, (search needs, search needs))
 
 gap-returns-2 : (t : ℕ) → gap-lts.Need-returns-2 (gap-calls t) (gap-at t) gap.Post
 gap-returns-2 t c =
     λ ws e.
-    let a = c .before .before .before .before .before .before .before .args in
-    c .gap .ensures ws e ∙ gap-parted (a .f) ws e (a .line .now) (c .before .before .before .before .before .if1 .left) (sym (c .before .before .before .parts-fields .ensures) ∙ c .before .before .if2 .taken)
+    let a = c .before .before .before .before .before .before .before .before .args in
+    c .gap .ensures ws e ∙ gap-passed ws (a .line .now) (c .before .before .gap-size .result) (c .before .before .gap-size .ensures)
 
 gap-is-digit-requires : (t : ℕ) → gap-lts.Need-is-digit-requires (gap-calls t) (gap-at t) gap.Post
 gap-is-digit-requires t c κs = search needs
@@ -298,6 +308,7 @@ pub +field+gap-spec : {M : Type 1} → statement M
     (gap-returns t)
     (gap-shared-slice-read-b t)
     (gap-parts-fields-requires t)
+    (gap-gap-size-requires t)
     (gap-sub-gap t)
     (gap-part-gap-start t)
     (gap-part-gap-end t)
