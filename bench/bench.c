@@ -1,6 +1,8 @@
 /* bench ladder FILE [ROOM]    a row: planning the list by the library and by search.c
  * bench slots | tasks | dead  rows: how planning grows
  * bench tick FILE             a row: ticks of the library and of the twin
+ * bench play FILE             prints nothing: one play by each, and as many encodings of the
+ *                             twin's state, for instructions to be counted
  * bench start FILE            a row: starts of the library and of the twin
  * bench read                  rows: reading by the library and by the twin
  * bench stack FILE            rows: stack of the library's functions, on a feasible list
@@ -355,6 +357,17 @@ static void tick_row(const char *path)
     print_ratio(times, tick_bound);
 }
 
+static void play_once(const char *path)
+{
+    struct playing *playing = playing_of(path);
+    uint8_t bytes[KILUVSAAT_STATE_SIZE];
+
+    play_by_library(playing);
+    play_by_twin(playing);
+    for (unsigned i = 0; i < TICKS; i++)
+        bytes_of_state(&playing->twin_state, bytes);
+}
+
 static void start_row(const char *path)
 {
     struct playing *playing = playing_of(path);
@@ -487,6 +500,8 @@ int main(int argc, char **argv)
         grow_dead();
     else if (strcmp(what, "tick") == 0 && argc > 2)
         tick_row(argv[2]);
+    else if (strcmp(what, "play") == 0 && argc > 2)
+        play_once(argv[2]);
     else if (strcmp(what, "start") == 0 && argc > 2)
         start_row(argv[2]);
     else if (strcmp(what, "read") == 0)

@@ -1,16 +1,16 @@
 #define _POSIX_C_SOURCE 200809L /* clock_gettime */
 #include "measure.h"
 
+#include <math.h>
 #include <stdio.h>
-#include <stdlib.h>
 #include <time.h>
 
 enum {
-    RUNS = 11,
+    RUNS = 41,
     RUNS_IF_LONG = 5
 };
 
-static const double shortest_run = 0.01; /* seconds; shorter work is repeated */
+static const double shortest_run = 0.005; /* seconds; shorter work is repeated */
 static const double long_run = 0.3;
 
 static double processor_time(void)
@@ -40,18 +40,9 @@ static unsigned repeats_for(work *work, void *context)
     return repeats;
 }
 
-static int compare_times(const void *a, const void *b)
+static double lesser(double a, double b)
 {
-    double first = *(const double *)a;
-    double second = *(const double *)b;
-
-    return (first > second) - (first < second);
-}
-
-static double median(double *times, unsigned count)
-{
-    qsort(times, count, sizeof *times, compare_times);
-    return times[count / 2];
+    return a < b ? a : b;
 }
 
 struct times measure(work *library, work *other, void *context)
@@ -59,14 +50,15 @@ struct times measure(work *library, work *other, void *context)
     unsigned library_repeats = repeats_for(library, context);
     unsigned other_repeats = repeats_for(other, context);
     unsigned runs = time_of(library, context, 1) < long_run ? RUNS : RUNS_IF_LONG;
-    double library_times[RUNS];
-    double other_times[RUNS];
+    struct times least = {HUGE_VAL, HUGE_VAL};
 
     for (unsigned i = 0; i < runs; i++) {
-        library_times[i] = time_of(library, context, library_repeats) / library_repeats;
-        other_times[i] = time_of(other, context, other_repeats) / other_repeats;
+        least.library = lesser(least.library,
+                               time_of(library, context, library_repeats) / library_repeats);
+        least.other =
+            lesser(least.other, time_of(other, context, other_repeats) / other_repeats);
     }
-    return (struct times){median(library_times, runs), median(other_times, runs)};
+    return least;
 }
 
 const char *in_words(double seconds)

@@ -7,7 +7,8 @@
 /* Does the work once. */
 typedef void work(void *context);
 
-/* Seconds of processor time for doing the work once, each the median of several runs. */
+/* Seconds of processor time for doing the work once, each the least of several runs: what else
+ * the machine does only adds to it. */
 struct times {
     double library;
     double other;

@@ -15,7 +15,7 @@ use Rattle.rules.specs.Choices.{run, liveFrom}
 use Rattle.rules.proofs.Lists.{clash}
 use Rattle.rules.proofs.Laws.{T-true, T-and, T-or, le-or-lt, passed-rise, passed-fits, isDone-span, every-at}
 use Rattle.rules.proofs.Run.Reach.{ended-length, ended-at, next-length, next-at}
-use Rattle.planner.specs.Marks.{mark, lowered, unstarted, chosen, marks, spelled}
+use Rattle.planner.specs.Marks.{mark, lowered, raised, unstarted, chosen, marks, spelled}
 
 -- ── a mark is a byte ────────────────────────────────────────────────────────
 
@@ -74,6 +74,19 @@ lowered-mark (p ∷ ps) (q ∷ qs) e h =
     head true r = let z = eqb-true p q r in omega arith
     head false r = let n = eqb-false p q r in let a = h 0 (omega arith) in omega (arith, a .0, a .1, n)
 
+pub raised-mark : (ps qs : List ℕ) → length ps ≡ length qs → ((j : ℕ) → j < length ps → (getD ps j 0 ≤ getD qs j 0) × (getD qs j 0 ≤ suc (getD ps j 0)))
+    → raised (mark ps qs) ps ≡ qs
+unfolding raised mark
+raised-mark [] [] e h = refl
+raised-mark [] (q ∷ qs) e h = clash (length qs) (sym e)
+raised-mark (p ∷ ps) [] e h = clash (length ps) e
+raised-mark (p ∷ ps) (q ∷ qs) e h =
+    rw (low-bit (eqb p q) (mark ps qs), high-bits (eqb p q) (mark ps qs), raised-mark ps qs (omega arith) (λ j k. h (suc j) (omega arith)), head (eqb p q) refl)
+  where
+    head : (b : Bool) → eqb p q ≡ b → p + cond b 0 1 ≡ q
+    head true r = let z = eqb-true p q r in omega arith
+    head false r = let n = eqb-false p q r in let a = h 0 (omega arith) in omega (arith, a .0, a .1, n)
+
 -- where each that starts was done
 unstarted-restarted : (t i : ℕ) (s : List Task) (qs : List ℕ) → length qs ≡ length s
     → ((j : ℕ) → j < length s → starts t (getD s j noTask) ≡ true → getD qs j 0 ≡ span (getD s j noTask))
@@ -92,6 +105,9 @@ unstarted-restarted t i (τ ∷ s) (q ∷ qs) e h =
 module _ (s : List Task) (x : Position) (long : length (x .progress) ≡ length s) where
   rises : (c j : ℕ) → j < length (x .progress) → (getD (x .progress) j 0 ≤ getD (ended s (x .progress) c) j 0) × (getD (ended s (x .progress) c) j 0 ≤ suc (getD (x .progress) j 0))
   rises c j h = rw (ended-at s (x .progress) c j long (omega arith)) (passed-rise c j (getD s j noTask) (getD (x .progress) j 0))
+
+  pub raised-ended : (c : ℕ) → raised (mark (x .progress) (ended s (x .progress) c)) (x .progress) ≡ ended s (x .progress) c
+  raised-ended c = raised-mark (x .progress) (ended s (x .progress) c) (sym (ended-length s (x .progress) c long ∙ sym long)) (rises c)
 
   was-done : ((j : ℕ) → j < length s → getD (x .progress) j 0 ≤ span (getD s j noTask)) → (c : ℕ) → T (legal s x c) → (j : ℕ) → j < length s
       → starts (suc (x .slot)) (getD s j noTask) ≡ true → getD (ended s (x .progress) c) j 0 ≡ span (getD s j noTask)

@@ -24,7 +24,7 @@ use Rattle.rules.proofs.Plan.Unique.{pigeon}
 use Rattle.rules.proofs.Plan.Answer.{deadOf, deadOf-precede}
 use Rattle.rules.proofs.Plan.Ends.{recorded, found-first, found-precede, failed-none, failed-precede, no-room, last-In, In-last, last-Distinct}
 use Rattle.rules.proofs.Set.Tidy.{counts, set-fit, set-length}
-use Rattle.planner.specs.Marks.{marks, spelled}
+use Rattle.planner.specs.Marks.{marks, spelled, Listed}
 use Rattle.planner.specs.Machine.{Machine, Status, going, found, failed, noRoom, isGoing, emptied, Reaches, ends, steps, opened}
 use Rattle.planner.proofs.Marks.{spelled-is}
 use Rattle.planner.proofs.Searching.{Setting, Searching, Step, atEnd, full, spent, goesBack, goesOn, passes, step-of, lt-of, snoc, small, noted-is, opened-searching, step-searching}
@@ -43,6 +43,12 @@ frontAt s going n = replicate (hyper s) 255
 frontAt s found n = spelled s (start s) (take (hyper s) (n .table))
 frontAt s failed n = replicate (hyper s) 255
 frontAt s noRoom n = replicate (hyper s) 255
+
+unfoldable isFound : Status → Bool
+isFound going = false
+isFound found = true
+isFound failed = false
+isFound noRoom = false
 
 module _ (s : List Task) (K : ℕ) (table area : List ℕ) (S : Setting s K table area) where
   -- ── at an end ─────────────────────────────────────────────────────────────
@@ -194,6 +200,20 @@ module _ (s : List Task) (K : ℕ) (table area : List ℕ) (S : Setting s K tabl
   end-planned m n t (goesBack a b c d) o G = clash-bool (sym o)
   end-planned m n t (goesOn a b c) o G = clash-bool (sym o)
   end-planned m n t (passes a b c) o G = clash-bool (sym o)
+
+  -- a list that was found is live, and the table holds its marks
+  end-listed : (m n : Machine) (t : Status) → Step s K m t n → isFound t ≡ true → Searching s K table area m → Listed s (hyper s) (n .table)
+  unfolding isFound
+  end-listed m n t (atEnd a) o G = record { choices = G .trail; many = G .long ∙ a; marked = rw (← a) (G .marked); live = G .inv .live }
+  end-listed m n t (full a b c) o G = clash-bool o
+  end-listed m n t (spent a b c d) o G = clash-bool o
+  end-listed m n t (goesBack a b c d) o G = clash-bool o
+  end-listed m n t (goesOn a b c) o G = clash-bool o
+  end-listed m n t (passes a b c) o G = clash-bool o
+
+  pub reaches-listed : (n : Machine) → Reaches s K (opened s table area) found n → Listed s (hyper s) (n .table)
+  unfolding isFound
+  reaches-listed n r = let L = last-of (opened s table area) found n r (opened-searching s K table area S) in end-listed (L .from) n found (L .step) refl (L .good)
 
   pub reaches-beyond : (t : Status) (n : Machine) → Reaches s K (opened s table area) t n → drop (hyper s) (n .table) ≡ drop (hyper s) table
   reaches-beyond t n r = let L = last-of (opened s table area) t n r (opened-searching s K table area S) in end-beyond (L .from) n t (L .step) (L .over) (L .good) .0

@@ -3,7 +3,7 @@ use mathlib.Core.Path.{_≡_, refl, sym, ap, ap₂, _∙_}
 use mathlib.Core.Logic.{_⊎_, inl, inr}
 use mathlib.Core.Bool.{Bool, true, false, _&&_, _||_}
 use mathlib.Core.List.{List, [], _∷_, _++_, append-assoc}
-use Prim.Native.Nat.{ℕ, zero, suc, _+_, _*_, _≤_, _<_}
+use Prim.Native.Nat.{ℕ, zero, suc, _+_, _-_, _*_, _≤_, _<_}
 use native.Mathlib.Nat.{suc-mul, mul-le-mul-right}
 use native.Mathlib.Numerals.{add-one}
 use native.Mathlib.Omega.{arith}
@@ -15,7 +15,7 @@ use Rattle.rules.specs.Lists.{In, sameList}
 use Rattle.rules.specs.Positions.{Position}
 use Rattle.rules.specs.Planner.{records}
 use Rattle.rules.proofs.Lists.{clash-bool}
-use Rattle.rules.proofs.Laws.{T-true, true-T, T-and, T-or, le-or-lt}
+use Rattle.rules.proofs.Laws.{T-true, true-T, T-and, T-or}
 use Rattle.rules.proofs.Plan.Ends.{records-last}
 use Rattle.planner.specs.Area.{recordAt, among}
 
@@ -40,13 +40,12 @@ module _ (area : List ℕ) (at n slot : ℕ) (progress : List ℕ) where
   -- the numbers before place j + 1 agree
   pub record Alike (j : ℕ) : Type 0 where
     pub few : j ≤ n
-    pub eight : length progress ≡ 8
-    pub most : n ≤ 8
+    pub most : n ≤ length progress
     pub fits : at + (n + 1) ≤ length area
     pub rest : sameList wanted there ≡ sameList (drop (suc j) wanted) (drop (suc j) there)
 
-  wanted-length : length progress ≡ 8 → n ≤ 8 → length wanted ≡ suc n
-  wanted-length e m = ap suc (length-take-le n progress (omega arith))
+  wanted-length : n ≤ length progress → length wanted ≡ suc n
+  wanted-length m = ap suc (length-take-le n progress m)
 
   there-length : at + (n + 1) ≤ length area → length there ≡ suc n
   there-length f = length-take-le (n + 1) (drop at area) (omega (arith, length-drop at area)) ∙ add-one n
@@ -55,23 +54,23 @@ module _ (area : List ℕ) (at n slot : ℕ) (progress : List ℕ) where
   there-at j h = getD-take (n + 1) (drop at area) j 0 h ∙ getD-drop at area j 0
 
   -- at the slot
-  first : length progress ≡ 8 → n ≤ 8 → at + (n + 1) ≤ length area → sameList wanted there ≡ eqb slot (getD area at 0) && sameList (drop 1 wanted) (drop 1 there)
-  first e m f =
+  first : n ≤ length progress → at + (n + 1) ≤ length area → sameList wanted there ≡ eqb slot (getD area at 0) && sameList (drop 1 wanted) (drop 1 there)
+  first m f =
       let k = there-length f in
       let z : at + 0 ≡ at = omega arith in
       same-next wanted there 0 (omega arith) (omega arith) ∙ rw (there-at 0 (omega arith), z)
 
-  pub alike-never : length progress ≡ 8 → n ≤ 8 → at + (n + 1) ≤ length area → (getD area at 0 ≡ slot → ⊥) → false ≡ sameList wanted there
-  alike-never e m f d = sym (first e m f ∙ rw (ne-eqb slot (getD area at 0) (λ q. d (sym q))))
+  pub alike-never : n ≤ length progress → at + (n + 1) ≤ length area → (getD area at 0 ≡ slot → ⊥) → false ≡ sameList wanted there
+  alike-never m f d = sym (first m f ∙ rw (ne-eqb slot (getD area at 0) (λ q. d (sym q))))
 
-  pub alike-start : length progress ≡ 8 → n ≤ 8 → at + (n + 1) ≤ length area → getD area at 0 ≡ slot → Alike 0
-  alike-start e m f d = record { few = omega arith; eight = e; most = m; fits = f; rest = first e m f ∙ rw (eq-eqb slot (getD area at 0) (sym d)) }
+  pub alike-start : n ≤ length progress → at + (n + 1) ≤ length area → getD area at 0 ≡ slot → Alike 0
+  alike-start m f d = record { few = omega arith; most = m; fits = f; rest = first m f ∙ rw (eq-eqb slot (getD area at 0) (sym d)) }
 
   -- at a task's progress
   further : (j : ℕ) → Alike j → j < n → sameList wanted there ≡ eqb (getD progress j 0) (getD area (at + 1 + j) 0) && sameList (drop (suc (suc j)) wanted) (drop (suc (suc j)) there)
   further j v h =
       let f = v .fits in
-      let k = wanted-length (v .eight) (v .most) in
+      let k = wanted-length (v .most) in
       let l = there-length (v .fits) in
       let z : at + suc j ≡ at + 1 + j = omega arith in
       v .rest ∙ same-next wanted there (suc j) (omega arith) (omega arith) ∙ rw (there-at (suc j) (omega arith), z, getD-take n progress j 0 h)
@@ -82,7 +81,6 @@ module _ (area : List ℕ) (at n slot : ℕ) (progress : List ℕ) where
   pub alike-step : (j : ℕ) → Alike j → j < n → getD area (at + 1 + j) 0 ≡ getD progress j 0 → Alike (j + 1)
   alike-step j v h d = record {
     few = omega arith;
-    eight = v .eight;
     most = v .most;
     fits = v .fits;
     rest = further j v h ∙ rw (eq-eqb (getD progress j 0) (getD area (at + 1 + j) 0) (sym d), add-one j);
@@ -91,58 +89,74 @@ module _ (area : List ℕ) (at n slot : ℕ) (progress : List ℕ) where
   pub alike-end : (j : ℕ) → Alike j → n ≤ j → true ≡ sameList wanted there
   alike-end j v h =
       let a = v .few in
-      let k = wanted-length (v .eight) (v .most) in
+      let k = wanted-length (v .most) in
       let l = there-length (v .fits) in
       sym (v .rest ∙ same-end wanted there (suc j) (omega arith) (omega arith))
 
 -- ── among the first records ─────────────────────────────────────────────────
 
 -- the place of record k, within the first m
-pub room : (k m w : ℕ) → k < m → k * w + w ≤ m * w
+room : (k m w : ℕ) → k < m → k * w + w ≤ m * w
 room k m w h = omega (arith, suc-mul k w, mul-le-mul-right {m = suc k} {n = m} w h)
 
 or-true : (b : Bool) → (b || true) ≡ true
 or-true true = refl
 or-true false = refl
 
-module _ (w : ℕ) (area x : List ℕ) where
-  pub among-more : (k m : ℕ) → k ≤ m → among w area x k ≡ true → among w area x m ≡ true
-  unfolding among
-  among-more k zero h e = let z : k ≡ 0 = omega arith in rw z at e
-  among-more k (suc m) h e = go (le-or-lt k m) (λ l. among-more k m l e)
-    where
-      go : (k ≤ m) ⊎ (m < k) → (k ≤ m → among w area x m ≡ true) → among w area x (suc m) ≡ true
-      go (inl l) ih = rw (ih l) (or-true (sameList x (recordAt w area m)))
-      go (inr l) ih = let z : k ≡ suc m = omega arith in rw z at e
-
-  -- none of the first k is x, and at is the place of the next
-  pub record Passed (m k at : ℕ) : Type 0 where
+module _ (n : ℕ) (area x : List ℕ) where
+  -- of the first m only the first k are left, and at is the place behind them
+  pub record Left (m at : ℕ) : Type 0 where
+    pub k : ℕ
     pub few : k ≤ m
-    pub fits : m * w ≤ length area
-    pub place : at ≡ k * w
-    pub none : among w area x k ≡ false
+    pub fits : m * (n + 1) ≤ length area
+    pub place : at ≡ k * (n + 1)
+    pub same : among (n + 1) area x m ≡ among (n + 1) area x k
 
-  next : (k at : ℕ) → at ≡ k * w → among w area x (suc k) ≡ sameList x (take w (drop at area)) || among w area x k
+  -- the newest of those left
+  record Newest (m at : ℕ) : Type 0 where
+    k : ℕ
+    few : k < m
+    fits : m * (n + 1) ≤ length area
+    place : at - (n + 1) ≡ k * (n + 1)
+    wide : n + 1 ≤ at
+    same : among (n + 1) area x m ≡ sameList x (take (n + 1) (drop (at - (n + 1)) area)) || among (n + 1) area x k
+
+  newest : (m at : ℕ) → Left m at → 0 < at → Newest m at
   unfolding among recordAt
-  next k at e = rw e
+  newest m at v h = go (v .k) (v .few) (v .place) (v .same)
+    where
+      go : (k : ℕ) → k ≤ m → at ≡ k * (n + 1) → among (n + 1) area x m ≡ among (n + 1) area x k → Newest m at
+      go zero f p s = let z : ⊥ = omega arith in absurd z
+      go (suc k) f p s =
+          let e : at ≡ k * (n + 1) + (n + 1) = p ∙ suc-mul k (n + 1) in
+          let q : at - (n + 1) ≡ k * (n + 1) = omega arith in
+          record { k = k; few = f; fits = v .fits; place = q; wide = omega arith; same = s ∙ rw q }
 
-  pub passed-start : (m : ℕ) → m * w ≤ length area → Passed m 0 0
+  pub left-start : (m : ℕ) → m * (n + 1) ≤ length area → Left m (m * (n + 1))
+  left-start m h = record { k = m; few = omega arith; fits = h; place = refl; same = refl }
+
+  pub left-wide : (m at : ℕ) → Left m at → 0 < at → n + 1 ≤ at
+  left-wide m at v h = newest m at v h .wide
+
+  pub left-fits : (m at : ℕ) → Left m at → 0 < at → at - (n + 1) + (n + 1) ≤ length area
+  left-fits m at v h = let r = newest m at v h in let f = r .fits in let p = r .place in omega (arith, room (r .k) m (n + 1) (r .few))
+
+  pub left-step : (m at : ℕ) → Left m at → 0 < at → (b : Bool) → b ≡ sameList x (take (n + 1) (drop (at - (n + 1)) area)) → b ≡ false → Left m (at - (n + 1))
+  left-step m at v h b e f =
+      let r = newest m at v h in
+      let l = r .few in
+      record { k = r .k; few = omega arith; fits = v .fits; place = r .place; same = r .same ∙ rw (← e, f) }
+
+  pub left-found : (m at : ℕ) → Left m at → 0 < at → (b : Bool) → b ≡ sameList x (take (n + 1) (drop (at - (n + 1)) area)) → b ≡ true → true ≡ among (n + 1) area x m
+  left-found m at v h b e f = sym (newest m at v h .same ∙ rw (← e, f))
+
+  pub left-end : (m at : ℕ) → Left m at → at ≤ 0 → false ≡ among (n + 1) area x m
   unfolding among
-  passed-start m h = record { few = omega arith; fits = h; place = omega arith; none = refl }
-
-  pub passed-fits : (m k at : ℕ) → Passed m k at → k < m → at + w ≤ length area
-  passed-fits m k at v h = let f = v .fits in let e = v .place in omega (arith, room k m w h)
-
-  pub passed-step : (m k at : ℕ) → Passed m k at → k < m → (b : Bool) → b ≡ sameList x (take w (drop at area)) → b ≡ false → Passed m (k + 1) (at + w)
-  passed-step m k at v h b e f =
-      let p = v .place in
-      record { few = omega arith; fits = v .fits; place = rw add-one (omega (arith, suc-mul k w)); none = rw add-one (next k at (v .place) ∙ rw (← e, f) (v .none)) }
-
-  pub passed-found : (m k at : ℕ) → Passed m k at → k < m → (b : Bool) → b ≡ sameList x (take w (drop at area)) → b ≡ true → true ≡ among w area x m
-  passed-found m k at v h b e f = sym (among-more (suc k) m h (next k at (v .place) ∙ rw (← e, f)))
-
-  pub passed-end : (m k at : ℕ) → Passed m k at → m ≤ k → false ≡ among w area x m
-  passed-end m k at v h = let f = v .few in let z : k ≡ m = omega arith in sym (rw z at (v .none))
+  left-end m at v h = go (v .k) (v .place) (v .same)
+    where
+      go : (k : ℕ) → at ≡ k * (n + 1) → among (n + 1) area x m ≡ among (n + 1) area x k → false ≡ among (n + 1) area x m
+      go zero p s = sym s
+      go (suc k) p s = let z : ⊥ = omega (arith, suc-mul k (n + 1)) in absurd z
 
 -- ── a record put behind the others ──────────────────────────────────────────
 

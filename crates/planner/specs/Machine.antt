@@ -2,7 +2,7 @@
 use mathlib.Core.Bool.{Bool, true, false, not, cond, _&&_}
 use mathlib.Core.List.{List, [], _∷_, _++_}
 use mathlib.Core.Path.{_≡_}
-use Prim.Native.Nat.{ℕ, zero, suc, _+_, _-_, _*_}
+use Prim.Native.Nat.{ℕ, zero, suc, _+_, _-_, _*_, _≤_, _<_}
 use lib.Dec.{ltb, eqb}
 use lib.ListN.{length, getD, take, drop, set, replicate}
 use Rattle.rules.specs.Lists.{isZero}
@@ -115,6 +115,17 @@ stepOf s K m =
     (cond (ltb idle (m .choice))
     (cond (eqb (m .recorded) K) (giving noRoom m) (cond (isZero (m .slot)) (giving failed (emptied s m)) (giving going (backed s m))))
     (giving going (cond (leadsOn s m) (pushed s m) (passedOver s m))))
+
+-- choices tried one behind the other: those that do not lead on are passed over, up to one that is added or to the end
+pub data Tries (s : List Task) : Machine → Machine → Type 0 where
+  adds : {m : Machine} → m .choice ≤ idle → leadsOn s m ≡ true → Tries s m (pushed s m)
+  passes : {m n : Machine} → m .choice ≤ idle → leadsOn s m ≡ false → Tries s (passedOver s m) n → Tries s m n
+  spent : {m : Machine} → idle < m .choice → Tries s m m
+
+-- what a step of the code does: choices tried where some are left, or one step
+pub data Took (s : List Task) (K : ℕ) : Machine → Status → Machine → Type 0 where
+  once : {m n : Machine} {t : Status} → stepOf s K m ≡ giving t n → Took s K m t n
+  tries : {m n : Machine} → eqb (m .slot) (hyper s) ≡ false → m .choice ≤ idle → Tries s m n → Took s K m going n
 
 -- a run of steps from a machine, up to the first that does not go on
 pub data Reaches (s : List Task) (K : ℕ) : Machine → Status → Machine → Type 0 where

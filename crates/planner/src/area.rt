@@ -7,9 +7,9 @@ ghost use Rattle.rules.specs.Lists.{sameList};
 ghost use Rattle.planner.specs.Area.{among};
 
 // Whether the record at a place of the area is that of a slot and n tasks' progress.
-fn same_record(area: &[u16], at: usize, n: usize, slot: u16, progress: [u16; 8]) -> bool
-    requires { ⌜ (n ≤ 8) × (at + (n + 1) ≤ length (now area)) ⌝ }
-    ensures { λ r. ⌜ r ≡ sameList (slot ∷ take n progress) (take (n + 1) (drop at (now (area .entry)))) ⌝ }
+fn same_record(area: &[u16], at: usize, n: usize, slot: u16, progress: &[u16]) -> bool
+    requires { ⌜ (n ≤ length (now progress)) × (at + (n + 1) ≤ length (now area)) ⌝ }
+    ensures { λ r. ⌜ r ≡ sameList (slot ∷ take n (now (progress .entry))) (take (n + 1) (drop at (now (area .entry)))) ⌝ }
 {
     if area[at] != slot {
         return false;
@@ -24,19 +24,18 @@ fn same_record(area: &[u16], at: usize, n: usize, slot: u16, progress: [u16; 8])
     true
 }
 
-// Whether the record of a slot and n tasks' progress is among the first `recorded` of the area.
-pub(crate) fn seen(area: &[u16], recorded: usize, n: usize, slot: u16, progress: [u16; 8]) -> bool
-    requires { ⌜ (n ≤ 8) × (recorded * (n + 1) ≤ length (now area)) ⌝ }
-    ensures { λ r. ⌜ r ≡ among (n + 1) (now (area .entry)) (slot ∷ take n progress) recorded ⌝ }
+// Whether the record of a slot and n tasks' progress is among the first `recorded` of the area, from the newest to the oldest.
+pub(crate) fn seen(area: &[u16], recorded: usize, n: usize, slot: u16, progress: &[u16]) -> bool
+    requires { ⌜ (n ≤ length (now progress)) × (recorded * (n + 1) ≤ length (now area)) ⌝ }
+    ensures { λ r. ⌜ r ≡ among (n + 1) (now (area .entry)) (slot ∷ take n (now (progress .entry))) recorded ⌝ }
 {
-    let mut at = 0;
-    let mut k = 0;
-    while k < recorded {
+    let width = n + 1;
+    let mut at = recorded * width;
+    while 0 < at {
+        at -= width;
         if same_record(area, at, n, slot, progress) {
             return true;
         }
-        at += n + 1;
-        k += 1;
     }
     false
 }

@@ -1,10 +1,13 @@
 // The planner: the first schedule, or an exact no.
+pub mod ahead;
 pub mod area;
 pub mod mark;
+pub mod rows;
 pub mod search;
 
 use crate::area::fill;
 use crate::mark::spell;
+use crate::rows::lay_out;
 use crate::search::run;
 use tasks::TaskSet;
 use tasks::position::live;
@@ -44,13 +47,16 @@ pub fn plan(set: TaskSet, table: &mut [u8], area: &mut [u16]) -> Answer
         fill(table, slots);
         return Answer::Answered(Word::Infeasible, 0);
     }
-    let room = area.len() / (tasks_in(set) + 1);
-    let ended = run(set, h, room, table, area);
+    let n = tasks_in(set);
+    let room = area.len() / (n + 1);
+    let mut rows = [0u16; 128];
+    lay_out(set, &mut rows);
+    let ended = run(&rows, n, h, room, table, area);
     let word = ended.word;
     let recorded = ended.recorded;
     match word {
         Word::Schedule => {
-            spell(set, table, h);
+            spell(&rows, n, table, h);
             Answer::Answered(Word::Schedule, recorded)
         }
         Word::Infeasible => {

@@ -1,47 +1,26 @@
 // The byte that a slot leaves behind in the table during the search, and what is read from it.
+use crate::rows::begun_from;
+use crate::rows::since_at_end;
+use crate::rows::standing_in;
 use tasks::Standing;
-use tasks::Task;
-use tasks::TaskSet;
-use tasks::pattern::standing_at;
-use tasks::pattern::starts_at;
-use tasks::pattern::whole;
-use tasks::position::advance;
-use tasks::set::tasks_in;
 ghost use mathlib.Core.Path.{_≡_};
 ghost use mathlib.Core.Bool.{cond, _&&_};
 ghost use mathlib.Core.List.{_++_};
-ghost use Prim.Native.Nat.{_-_, _%_, _≤_};
+ghost use Prim.Native.Nat.{suc, _+_, _-_, _%_, _≤_, _<_};
 ghost use lib.Dec.{eqb};
 ghost use lib.ListN.{length, take, drop};
 ghost use Rattle.rules.specs.Tasks.{span, standing, isReady};
-ghost use Rattle.rules.specs.Positions.{each, start, starts};
-ghost use Rattle.tasks.specs.Views.{taskOf, setOf, progressOf, arrayOf};
-ghost use Rattle.planner.specs.Marks.{mark, lowered, unstarted, chosen, spelled};
-
-// The mark of a slot: which of the first n tasks' progress rose.
-pub(crate) fn mark_of(n: usize, before: [u16; 8], after: [u16; 8]) -> u8
-    requires { ⌜ n ≤ 8 ⌝ }
-    ensures { λ r. ⌜ r ≡ mark (take n before) (take n after) ⌝ }
-{
-    let mut bits: u16 = 0;
-    let mut i = n;
-    while 0 < i {
-        i -= 1;
-        if before[i] == after[i] {
-            bits = bits * 2;
-        } else {
-            bits = bits * 2 + 1;
-        }
-    }
-    bits as u8
-}
+ghost use Rattle.rules.specs.Positions.{each, start, starts, restarted};
+ghost use Rattle.planner.specs.Rows.{taskAt, rowTasks, Row, Laid, Modest};
+ghost use Rattle.planner.specs.Marks.{lowered, raised, unstarted, chosen, spelled, Listed};
 
 // A task's progress at the end of the slot before, from that at the start of `slot`.
-fn at_end(t: Task, slot: u32, progress: u16) -> u16
-    ensures { λ r. ⌜ r ≡ cond (starts slot (taskOf t)) (span (taskOf t)) progress ⌝ }
+fn at_end(rows: &[u16], at: usize, slot: u16, progress: u16) -> u16
+    requires { ⌜ Row (now rows) at ⌝ }
+    ensures { λ r. ⌜ r ≡ cond (starts slot (taskAt (now (rows .entry)) at)) (span (taskAt (now (rows .entry)) at)) progress ⌝ }
 {
-    if starts_at(t, slot) {
-        return whole(t);
+    if slot % rows[at] == 0 {
+        return rows[at + 2];
     }
     progress
 }
@@ -59,17 +38,16 @@ fn less_bit(progress: u16, bits: u8) -> u16
     progress - 1
 }
 
-// The progress before a slot that began n tasks' progress `after`, at the start of `slot`, from the slot's mark.
-pub(crate) fn take_back(s: TaskSet, slot: u32, after: [u16; 8], mark: u8) -> [u16; 8]
-    ensures { λ r. ⌜ r ≡ arrayOf (lowered mark (each (unstarted slot) 0 (setOf s) (progressOf s after))) ⌝ }
+// The progress before a slot, from that at the start of the next one, `slot`, and the slot's mark.
+pub(crate) fn take_back(rows: &[u16], n: usize, slot: u16, after: [u16; 8], mark: u8) -> [u16; 8]
+    requires { ⌜ Laid n (now rows) ⌝ }
+    ensures { λ r. ⌜ take n r ≡ lowered mark (each (unstarted slot) 0 (rowTasks n (now (rows .entry))) (take n after)) ⌝ }
 {
-    let n = tasks_in(s);
     let mut out = [0u16; 8];
     let mut bits = mark;
     let mut i = 0;
     while i < n {
-        let t = s.tasks[i];
-        out[i] = less_bit(at_end(t, slot, after[i]), bits);
+        out[i] = less_bit(at_end(rows, i * 16, slot, after[i]), bits);
         bits = bits / 2;
         i += 1;
     }
@@ -77,13 +55,14 @@ pub(crate) fn take_back(s: TaskSet, slot: u32, after: [u16; 8], mark: u8) -> [u1
 }
 
 // The lowest bit is set, and the task was ready.
-fn rose(t: Task, before: u16, bits: u8) -> bool
-    ensures { λ r. ⌜ r ≡ eqb (bits % 2) 1 && isReady (standing (taskOf t) before) ⌝ }
+fn rose(rows: &[u16], at: usize, before: u16, bits: u8) -> bool
+    requires { ⌜ Row (now rows) at ⌝ }
+    ensures { λ r. ⌜ r ≡ eqb (bits % 2) 1 && isReady (standing (taskAt (now (rows .entry)) at) before) ⌝ }
 {
     if bits % 2 == 0 {
         return false;
     }
-    match standing_at(t, before) {
+    match standing_in(rows, at, before) {
         Standing::Ready => true,
         Standing::Waiting => false,
         Standing::Done => false,
@@ -91,15 +70,15 @@ fn rose(t: Task, before: u16, bits: u8) -> bool
 }
 
 // The choice of a slot from its mark and the progress before it.
-pub(crate) fn choice_from(s: TaskSet, before: [u16; 8], mark: u8) -> u8
-    ensures { λ r. ⌜ r ≡ chosen 0 mark (setOf s) (progressOf s before) ⌝ }
+pub(crate) fn choice_from(rows: &[u16], n: usize, before: &[u16], mark: u8) -> u8
+    requires { ⌜ Laid n (now rows) ⌝ }
+    requires { ⌜ length (now before) ≡ 8 ⌝ }
+    ensures { λ r. ⌜ r ≡ chosen 0 mark (rowTasks n (now (rows .entry))) (take n (now (before .entry))) ⌝ }
 {
-    let n = tasks_in(s);
     let mut bits = mark;
     let mut i = 0;
     while i < n {
-        let t = s.tasks[i];
-        if rose(t, before[i], bits) {
+        if rose(rows, i * 16, before[i], bits) {
             return i as u8;
         }
         bits = bits / 2;
@@ -108,19 +87,47 @@ pub(crate) fn choice_from(s: TaskSet, before: [u16; 8], mark: u8) -> u8
     255
 }
 
+// Progress and the lowest bit.
+fn more_bit(progress: u16, bits: u8) -> u16
+    requires { ⌜ progress ≤ 4096 ⌝ }
+    ensures { λ r. ⌜ r ≡ progress + bits % 2 ⌝ }
+{
+    progress + (bits % 2) as u16
+}
+
+// The progress in the next slot, from that before a slot and the slot's mark.
+fn go_along(rows: &[u16], n: usize, slot: u16, mark: u8, progress: &mut [u16])
+    requires { ⌜ Laid n (now rows) ⌝ }
+    requires { ⌜ length (now progress) ≡ 8 ⌝ }
+    requires { ⌜ Modest n (now progress) ⌝ }
+    ensures { λ _. ⌜ take n (now (progress .exit)) ≡ each (restarted (suc slot)) 0 (rowTasks n (now (rows .entry))) (raised mark (take n (now (progress .entry)))) ⌝ }
+{
+    let mut bits = mark;
+    let mut i = 0;
+    while i < n {
+        let at = i * 16;
+        let risen = more_bit(progress[i], bits);
+        let since = since_at_end(rows, at, slot);
+        progress[i] = begun_from(rows, at, since, risen);
+        bits = bits / 2;
+        i += 1;
+    }
+}
+
 // The first h bytes of the table, from marks into choices.
-pub(crate) fn spell(s: TaskSet, table: &mut [u8], h: u16)
+pub(crate) fn spell(rows: &[u16], n: usize, table: &mut [u8], h: u16)
+    requires { ⌜ Laid n (now rows) ⌝ }
     requires { ⌜ h ≤ length (now table) ⌝ }
-    ensures { λ r. ⌜ now (table .exit) ≡ spelled (setOf s) (start (setOf s)) (take h (now (table .entry))) ++ drop h (now (table .entry)) ⌝ }
+    requires { ⌜ Listed (rowTasks n (now rows)) h (now table) ⌝ }
+    ensures { λ r. ⌜ now (table .exit) ≡ spelled (rowTasks n (now (rows .entry))) (start (rowTasks n (now (rows .entry)))) (take h (now (table .entry))) ++ drop h (now (table .entry)) ⌝ }
 {
     let mut progress = [0u16; 8];
     let mut slot: u16 = 0;
     while slot < h {
         let i = slot as usize;
-        let choice = choice_from(s, progress, table[i]);
-        table[i] = choice;
-        let on = advance(s, slot, progress, choice);
-        progress = on.progress;
+        let mark = table[i];
+        table[i] = choice_from(rows, n, &progress, mark);
+        go_along(rows, n, slot, mark, &mut progress);
         slot += 1;
     }
 }

@@ -1,19 +1,22 @@
-// The search for the first schedule: a step adds or takes back one choice of the list under trial, or records one dead position.
+// The search for the first schedule: a step adds the first choice that leads on or finds none, or records one dead position and takes back one
+// choice of the list under trial.
 use crate::Word;
+use crate::ahead::bit_of;
+use crate::ahead::leads;
+use crate::ahead::look_ahead;
 use crate::area::put;
 use crate::area::seen;
 use crate::mark::choice_from;
-use crate::mark::mark_of;
 use crate::mark::take_back;
-use tasks::TaskSet;
-use tasks::position::advance;
-use tasks::position::slot_end;
-use tasks::set::tasks_in;
 ghost use mathlib.Core.Path.{_≡_};
-ghost use Prim.Native.Nat.{_≤_};
-ghost use Rattle.tasks.specs.Views.{setOf};
-ghost use Rattle.planner.specs.Machine.{following, stepOf, opened};
-ghost use Rattle.planner.specs.Views.{machineOf, steppedOf, tried, shut, Trying, Recording, Fits, Opening, endOf, Ran};
+ghost use mathlib.Core.Bool.{cond};
+ghost use Prim.Native.Nat.{suc, _-_, _*_, _≤_};
+ghost use lib.Dec.{ltb};
+ghost use lib.ListN.{length, getD, set};
+ghost use Rattle.planner.specs.Rows.{rowTasks};
+ghost use Rattle.planner.specs.Ahead.{leadsTask, First};
+ghost use Rattle.planner.specs.Machine.{following, opened, Tries, Took};
+ghost use Rattle.planner.specs.Views.{statusOf, machineOf, steppedOf, shut, Trying, Recording, Fits, Opening, endOf, Ran};
 
 // The position that the list under trial leads to, the choice to try behind it (256: all are tried), and the number of records.
 pub struct Search {
@@ -50,60 +53,95 @@ fn choice_behind(n: usize, c: u16) -> u16
     on
 }
 
-// A choice is added to the list if it leads to a live position that is not recorded, else passed over.
-fn try_choice(s: TaskSet, at: Search, table: &mut [u8], area: &[u16]) -> Stepped
-    requires { ⌜ Trying s at (now table) (now area) ⌝ }
-    ensures { λ r. ⌜ steppedOf s r (now (table .exit)) (now (area .entry)) ≡ tried (setOf s) (machineOf s at (now (table .entry)) (now (area .entry))) ⌝ }
+// The first task from `from` on that leads to a position which is not recorded, or 255. Then `stay` holds that position's progress.
+fn first_task(
+    n: usize,
+    from: u16,
+    urgent: u16,
+    slot: u16,
+    recorded: usize,
+    go: &[u16],
+    stay: &mut [u16],
+    area: &[u16],
+) -> u16
+    requires { ⌜ n ≤ 8 ⌝ }
+    requires { ⌜ length (now go) ≡ 8 ⌝ }
+    requires { ⌜ length (now stay) ≡ 8 ⌝ }
+    requires { ⌜ recorded * suc n ≤ length (now area) ⌝ }
+    ensures first { λ r. ⌜ First (leadsTask n urgent slot recorded (now (go .entry)) (now (stay .entry)) (now (area .entry))) n from r ⌝ }
+    ensures reached { λ r. ⌜ now (stay .exit) ≡ cond (ltb r n) (set (now (stay .entry)) r (getD (now (go .entry)) r 0 - 1)) (now (stay .entry)) ⌝ }
 {
-    let n = tasks_in(s);
+    let mut i = from as usize;
+    while i < n {
+        let to = go[i];
+        if leads(urgent, to, i as u16) {
+            let unchosen = stay[i];
+            stay[i] = to - 1;
+            if !seen(area, recorded, n, slot, stay) {
+                return i as u16;
+            }
+            stay[i] = unchosen;
+        }
+        i += 1;
+    }
+    255
+}
+
+// The first choice that leads to a live position which is not recorded is added to the list; where there is none, all are tried.
+fn lead_on(rows: &[u16], n: usize, at: Search, table: &mut [u8], area: &[u16]) -> Search
+    requires { ⌜ Trying n (now rows) at (now table) (now area) ⌝ }
+    ensures { λ r. ⌜ Tries (rowTasks n (now (rows .entry))) (machineOf n at (now (table .entry)) (now (area .entry))) (machineOf n r (now (table .exit)) (now (area .entry))) ⌝ }
+{
     let slot = at.slot;
     let progress = at.progress;
     let recorded = at.recorded;
-    let choice = at.choice as u8;
-    let on = advance(s, slot, progress, choice);
-    if !on.legal {
-        return Stepped {
-            status: Status::Going,
-            search: Search {
-                slot,
-                progress,
-                choice: choice_behind(n, at.choice),
-                recorded,
-            },
-        };
-    }
-    let reached = on.progress;
-    if seen(area, recorded, n, slot + 1, reached) {
-        return Stepped {
-            status: Status::Going,
-            search: Search {
-                slot,
-                progress,
-                choice: choice_behind(n, at.choice),
-                recorded,
-            },
-        };
-    }
-    let end = slot_end(s, progress, choice);
+    let mut stay = [0u16; 8];
+    let mut go = [0u16; 8];
+    let ahead = look_ahead(rows, n, slot, &progress, &mut stay, &mut go);
+    let c = first_task(
+        n,
+        at.choice,
+        ahead.urgent,
+        slot + 1,
+        recorded,
+        &go,
+        &mut stay,
+        area,
+    );
     let i = slot as usize;
-    table[i] = mark_of(n, progress, end);
-    Stepped {
-        status: Status::Going,
-        search: Search {
+    if c < 255 {
+        table[i] = ahead.waits + bit_of(c as usize);
+        return Search {
             slot: slot + 1,
-            progress: reached,
+            progress: stay,
             choice: 0,
             recorded,
-        },
+        };
+    }
+    if ahead.urgent == 256 {
+        if !seen(area, recorded, n, slot + 1, &stay) {
+            table[i] = ahead.waits;
+            return Search {
+                slot: slot + 1,
+                progress: stay,
+                choice: 0,
+                recorded,
+            };
+        }
+    }
+    Search {
+        slot,
+        progress,
+        choice: 256,
+        recorded,
     }
 }
 
 // With no choice left to try the position is dead: it is recorded, and the last choice taken back.
-fn record_dead(s: TaskSet, at: Search, table: &[u8], area: &mut [u16]) -> Stepped
-    requires { ⌜ Recording s at (now table) (now area) ⌝ }
-    ensures { λ r. ⌜ steppedOf s r (now (table .entry)) (now (area .exit)) ≡ shut (setOf s) (machineOf s at (now (table .entry)) (now (area .entry))) ⌝ }
+fn record_dead(rows: &[u16], n: usize, at: Search, table: &[u8], area: &mut [u16]) -> Stepped
+    requires { ⌜ Recording n (now rows) at (now table) (now area) ⌝ }
+    ensures { λ r. ⌜ steppedOf n r (now (table .entry)) (now (area .exit)) ≡ shut (rowTasks n (now (rows .entry))) (machineOf n at (now (table .entry)) (now (area .entry))) ⌝ }
 {
-    let n = tasks_in(s);
     let slot = at.slot;
     let progress = at.progress;
     let recorded = at.recorded;
@@ -123,8 +161,8 @@ fn record_dead(s: TaskSet, at: Search, table: &[u8], area: &mut [u16]) -> Steppe
     let last = slot - 1;
     let i = last as usize;
     let mark = table[i];
-    let before = take_back(s, slot as u32, progress, mark);
-    let choice = choice_from(s, before, mark);
+    let before = take_back(rows, n, slot, progress, mark);
+    let choice = choice_from(rows, n, &before, mark);
     Stepped {
         status: Status::Going,
         search: Search {
@@ -137,9 +175,17 @@ fn record_dead(s: TaskSet, at: Search, table: &[u8], area: &mut [u16]) -> Steppe
 }
 
 // One step of the search, of a hyper-period of h slots, in an area with room for so many records.
-fn step(s: TaskSet, h: u16, room: usize, at: Search, table: &mut [u8], area: &mut [u16]) -> Stepped
-    requires { ⌜ Fits s h room at (now table) (now area) ⌝ }
-    ensures { λ r. ⌜ steppedOf s r (now (table .exit)) (now (area .exit)) ≡ stepOf (setOf s) room (machineOf s at (now (table .entry)) (now (area .entry))) ⌝ }
+fn step(
+    rows: &[u16],
+    n: usize,
+    h: u16,
+    room: usize,
+    at: Search,
+    table: &mut [u8],
+    area: &mut [u16],
+) -> Stepped
+    requires { ⌜ Fits n (now rows) h room at (now table) (now area) ⌝ }
+    ensures { λ r. ⌜ Took (rowTasks n (now (rows .entry))) room (machineOf n at (now (table .entry)) (now (area .entry))) (statusOf (r .status)) (machineOf n (r .search) (now (table .exit)) (now (area .exit))) ⌝ }
 {
     if at.slot == h {
         return Stepped {
@@ -148,7 +194,10 @@ fn step(s: TaskSet, h: u16, room: usize, at: Search, table: &mut [u8], area: &mu
         };
     }
     if at.choice <= 255 {
-        return try_choice(s, at, table, area);
+        return Stepped {
+            status: Status::Going,
+            search: lead_on(rows, n, at, table, area),
+        };
     }
     let left = room - at.recorded;
     if left == 0 {
@@ -157,7 +206,7 @@ fn step(s: TaskSet, h: u16, room: usize, at: Search, table: &mut [u8], area: &mu
             search: at,
         };
     }
-    record_dead(s, at, table, area)
+    record_dead(rows, n, at, table, area)
 }
 
 // How a search ended, with the number of records.
@@ -167,9 +216,16 @@ pub struct Ended {
 }
 
 // The search from its start to its end.
-pub(crate) fn run(s: TaskSet, h: u16, room: usize, table: &mut [u8], area: &mut [u16]) -> Ended
-    requires { ⌜ Opening s h room (now table) (now area) ⌝ }
-    ensures { λ r. ⌜ Ran (setOf s) room (opened (setOf s) (now (table .entry)) (now (area .entry))) (endOf (r .word)) (r .recorded) (now (table .exit)) (now (area .exit)) ⌝ }
+pub(crate) fn run(
+    rows: &[u16],
+    n: usize,
+    h: u16,
+    room: usize,
+    table: &mut [u8],
+    area: &mut [u16],
+) -> Ended
+    requires { ⌜ Opening n (now rows) h room (now table) (now area) ⌝ }
+    ensures { λ r. ⌜ Ran (rowTasks n (now (rows .entry))) room (opened (rowTasks n (now (rows .entry))) (now (table .entry)) (now (area .entry))) (endOf (r .word)) (r .recorded) (now (table .exit)) (now (area .exit)) ⌝ }
 {
     let mut at = Search {
         slot: 0,
@@ -178,7 +234,7 @@ pub(crate) fn run(s: TaskSet, h: u16, room: usize, table: &mut [u8], area: &mut 
         recorded: 0,
     };
     loop {
-        let took = step(s, h, room, at, table, area);
+        let took = step(rows, n, h, room, at, table, area);
         let reached = took.search;
         let recorded = reached.recorded;
         let status = took.status;

@@ -1,7 +1,7 @@
 -- `planner::plan` replies as the rules say. Assumes nothing.
 use borrow.Author.Needs.{needs}
 use native.Mathlib.Omega.{arith}
-use Rattle.planner.proofs.Replies.{few-more, set-refused, table-short, never-begun, opens, first-found, none-exists, area-full}
+use Rattle.planner.proofs.Replies.{few-more, set-refused, table-short, never-begun, opens, may-spell, first-found, none-exists, area-full}
 use Rattle.planner.proofs.plan.Statement.{statement}
 use Rattle.planner.proofs.plan.Tie as tie
 
@@ -43,18 +43,37 @@ add-room c = let n = few-more _ _ (c .tasks-in .ensures) in omega arith
 div-room : tie.Need-div-room
 div-room c = search needs
 
+slice-aggregate-lay-out : tie.Need-slice-aggregate-lay-out
+slice-aggregate-lay-out c = search needs
+
+lay-out-requires : tie.Need-lay-out-requires
+lay-out-requires c κs = search needs
+
+slice-aggregate-run : tie.Need-slice-aggregate-run
+slice-aggregate-run c = search needs
+
 run-requires : tie.Need-run-requires
 run-requires c κs =
-    let n = c .before .before in
+    let y = c .before .before .before .before in
+    let n = y .before .before in
     let l = n .before .before in
     let j = l .before .before .before in
-    opens _ _ _ _ (j .judge .ensures .0) _ (j .judge .ensures .1) (l .before .before .if1 .left) (l .before .if2 .left) _ (l .live .ensures) (n .before .if3 .left) _ (n .tasks-in .ensures)
+    opens _ _ _ _ (j .judge .ensures .0) _ (j .judge .ensures .1) (l .before .before .if1 .left) (l .before .if2 .left) _ (l .live .ensures) (n .before .if3 .left) _ (n .tasks-in .ensures) _ (search needs) (y .lay-out .ensures)
 
 enum-told : tie.Need-enum-told
 enum-told c = search needs
 
+slice-aggregate-spell : tie.Need-slice-aggregate-spell
+slice-aggregate-spell c = search needs
+
 spell-requires : tie.Need-spell-requires
-spell-requires c κs = search needs
+spell-requires c κs =
+    let r = c .before .before .before .before .before .before .before .before in
+    let y = r .before .before .before .before .before in
+    let n = y .before .before in
+    let l = n .before .before in
+    let j = l .before .before .before in
+    may-spell _ _ _ _ (j .judge .ensures .0) _ (j .judge .ensures .1) (l .before .before .if1 .left) (l .before .if2 .left) _ (l .live .ensures) (n .before .if3 .left) _ (n .tasks-in .ensures) _ (search needs) (y .lay-out .ensures) _ _ _ _ (r .run .ensures) (c .before .before .enum-told .given .1)
 
 enum-told-2 : tie.Need-enum-told-2
 enum-told-2 c = search needs
@@ -77,12 +96,13 @@ same-length-3 c = search needs
 returns-4 : tie.Need-returns-4
 returns-4 c =
     let q = c .before .before in
-    let e = q .before .before in
+    let e = q .before .before .before in
     let r = e .before .before .before .before .before .before in
-    let n = r .before .before .before in
+    let y = r .before .before .before .before .before in
+    let n = y .before .before in
     let l = n .before .before in
     let j = l .before .before .before in
-    first-found _ _ _ _ (j .judge .ensures .0) _ (j .judge .ensures .1) (l .before .before .if1 .left) (l .before .if2 .left) _ (l .live .ensures) (n .before .if3 .left) _ (n .tasks-in .ensures) _ _ _ _ (r .run .ensures) _ (e .enum-told .given .1) (q .spell .ensures)
+    first-found _ _ _ _ (j .judge .ensures .0) _ (j .judge .ensures .1) (l .before .before .if1 .left) (l .before .if2 .left) _ (l .live .ensures) (n .before .if3 .left) _ (n .tasks-in .ensures) _ (search needs) (y .lay-out .ensures) _ _ _ _ (r .run .ensures) _ (e .enum-told .given .1) (q .spell .ensures)
 
 same-length-4 : tie.Need-same-length-4
 same-length-4 c = search needs
@@ -95,10 +115,11 @@ returns-5 c =
     let q = c .before .before in
     let e = q .before .before in
     let r = e .before .before .before .before .before .before in
-    let n = r .before .before .before in
+    let y = r .before .before .before .before .before in
+    let n = y .before .before in
     let l = n .before .before in
     let j = l .before .before .before in
-    none-exists _ _ _ _ (j .judge .ensures .0) _ (j .judge .ensures .1) (l .before .before .if1 .left) (l .before .if2 .left) _ (l .live .ensures) (n .before .if3 .left) _ (n .tasks-in .ensures) _ _ _ _ (r .run .ensures) _ (e .enum-told2 .given .1) (q .fill2 .ensures)
+    none-exists _ _ _ _ (j .judge .ensures .0) _ (j .judge .ensures .1) (l .before .before .if1 .left) (l .before .if2 .left) _ (l .live .ensures) (n .before .if3 .left) _ (n .tasks-in .ensures) _ (search needs) (y .lay-out .ensures) _ _ _ _ (r .run .ensures) _ (e .enum-told2 .given .1) (q .fill2 .ensures)
 
 same-length-6 : tie.Need-same-length-6
 same-length-6 c = search needs
@@ -111,10 +132,11 @@ returns-6 c =
     let q = c .before .before in
     let e = q .before .before in
     let r = e .before .before .before .before .before .before in
-    let n = r .before .before .before in
+    let y = r .before .before .before .before .before in
+    let n = y .before .before in
     let l = n .before .before in
     let j = l .before .before .before in
-    area-full _ _ _ _ (j .judge .ensures .0) _ (j .judge .ensures .1) (l .before .before .if1 .left) (l .before .if2 .left) _ (l .live .ensures) (n .before .if3 .left) _ (n .tasks-in .ensures) _ _ _ _ (r .run .ensures) _ (e .enum-told3 .given .1) (q .fill3 .ensures)
+    area-full _ _ _ _ (j .judge .ensures .0) _ (j .judge .ensures .1) (l .before .before .if1 .left) (l .before .if2 .left) _ (l .live .ensures) (n .before .if3 .left) _ (n .tasks-in .ensures) _ (search needs) (y .lay-out .ensures) _ _ _ _ (r .run .ensures) _ (e .enum-told3 .given .1) (q .fill3 .ensures)
 
 pub plan-spec : {M : Type 1} → statement M
 plan-spec =
@@ -131,8 +153,12 @@ plan-spec =
     tasks-in-requires
     add-room
     div-room
+    slice-aggregate-lay-out
+    lay-out-requires
+    slice-aggregate-run
     run-requires
     enum-told
+    slice-aggregate-spell
     spell-requires
     enum-told-2
     fill-requires-2

@@ -38,8 +38,8 @@ shared-slice-read-if2 c = search needs
 mul-if2-2 : tie.Need-mul-if2-2 Inv-loop μ-loop
 mul-if2-2 c = search needs
 
-array-read-if2 : tie.Need-array-read-if2 Inv-loop μ-loop
-array-read-if2 c = search needs
+shared-slice-read-if2-2 : tie.Need-shared-slice-read-if2-2 Inv-loop μ-loop
+shared-slice-read-if2-2 c = search needs
 
 returns-2 : tie.Need-returns-2 Inv-loop μ-loop
 returns-2 c = search (needs, alike-off)
@@ -71,7 +71,7 @@ same-record-spec =
     mul-if2
     shared-slice-read-if2
     mul-if2-2
-    array-read-if2
+    shared-slice-read-if2-2
     returns-2
     add-j
     loop-less

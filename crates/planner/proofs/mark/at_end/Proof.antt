@@ -1,19 +1,42 @@
 -- `planner::mark::at_end`: a task that starts again was done. Assumes nothing.
 use borrow.Author.Needs.{needs}
+use Rattle.planner.proofs.Loops.{end-done, end-same}
 use Rattle.planner.proofs.mark.at_end.Statement.{statement}
 use Rattle.planner.proofs.mark.at_end.Tie as tie
 
-starts-at-requires : tie.Need-starts-at-requires
-starts-at-requires c κs = search needs
+mul-if1 : tie.Need-mul-if1
+mul-if1 c = search needs
 
-whole-requires : tie.Need-whole-requires
-whole-requires c κs = search needs
+shared-slice-read-if1 : tie.Need-shared-slice-read-if1
+shared-slice-read-if1 c = search needs
+
+rem-if1 : tie.Need-rem-if1
+rem-if1 c = search needs
+
+add-result : tie.Need-add-result
+add-result c = search needs
+
+mul-result : tie.Need-mul-result
+mul-result c = search needs
+
+shared-slice-read-result : tie.Need-shared-slice-read-result
+shared-slice-read-result c = search needs
 
 returns : tie.Need-returns
-returns c = rw (← c .before .before .starts-at .ensures, c .before .if1 .taken) (c .whole .ensures)
+returns c = search (needs, end-done)
 
 returns-2 : tie.Need-returns-2
-returns-2 c = rw (← c .before .starts-at .ensures, c .if1 .left)
+returns-2 c = search (needs, end-same)
 
 pub at-end-spec : {M : Type 1} → statement M
-at-end-spec = tie.close (tie.spec starts-at-requires whole-requires returns returns-2)
+at-end-spec =
+    tie.close
+    (tie.spec
+    mul-if1
+    shared-slice-read-if1
+    rem-if1
+    add-result
+    mul-result
+    shared-slice-read-result
+    returns
+    returns-2)

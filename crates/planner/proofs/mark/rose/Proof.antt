@@ -9,8 +9,8 @@ use Rattle.planner.proofs.mark.rose.Tie as tie
 returns : tie.Need-returns
 returns c = rose-not _ _ (c .if1 .taken)
 
-standing-at-requires : tie.Need-standing-at-requires
-standing-at-requires c κs = search needs
+standing-in-requires : tie.Need-standing-in-requires
+standing-in-requires c κs = search needs
 
 enum-told : tie.Need-enum-told
 enum-told c = search needs
@@ -23,22 +23,22 @@ enum-told-3 c = search needs
 
 returns-2 : tie.Need-returns-2
 unfolding standingOf isReady
-returns-2 c = rose-if _ (c .before .before .standing-at .result) _ _ _ (c .before .before .before .if1 .left) (c .before .before .standing-at .ensures) (rw (c .enum-told .given .1))
+returns-2 c = rose-if _ (c .before .before .standing-in .result) _ _ _ (c .before .before .before .if1 .left) (c .before .before .standing-in .ensures) (rw (c .enum-told .given .1))
 
 returns-3 : tie.Need-returns-3
 unfolding standingOf isReady
-returns-3 c = rose-if _ (c .before .before .standing-at .result) _ _ _ (c .before .before .before .if1 .left) (c .before .before .standing-at .ensures) (rw (c .enum-told2 .given .1))
+returns-3 c = rose-if _ (c .before .before .standing-in .result) _ _ _ (c .before .before .before .if1 .left) (c .before .before .standing-in .ensures) (rw (c .enum-told2 .given .1))
 
 returns-4 : tie.Need-returns-4
 unfolding standingOf isReady
-returns-4 c = rose-if _ (c .before .before .standing-at .result) _ _ _ (c .before .before .before .if1 .left) (c .before .before .standing-at .ensures) (rw (c .enum-told3 .given .1))
+returns-4 c = rose-if _ (c .before .before .standing-in .result) _ _ _ (c .before .before .before .if1 .left) (c .before .before .standing-in .ensures) (rw (c .enum-told3 .given .1))
 
 pub rose-spec : {M : Type 1} → statement M
 rose-spec =
     tie.close
     (tie.spec
     returns
-    standing-at-requires
+    standing-in-requires
     enum-told
     enum-told-2
     enum-told-3

@@ -1,40 +1,35 @@
 -- `planner::mark::take_back`: the progress before a slot, task by task, with the bit of each. Assumes nothing.
 use borrow.Author.Needs.{needs}
-use mathlib.Core.Path.{_≡_, refl, ap, _∙_}
+use mathlib.Core.Path.{_≡_, refl, _∙_}
 use Prim.Native.Nat.{_-_}
-use Rattle.tasks.specs.Views.{arrayOf, setOf, progressOf}
-use Rattle.tasks.proofs.Positions.{Written, written-start, written-step, written-end}
-use Rattle.planner.proofs.Loops.{halved, halved-next, back, back-at, lowered-all}
+use lib.ListN.{take}
+use Rattle.planner.specs.Rows.{rowTasks}
+use Rattle.planner.proofs.Places.{laid-row}
+use Rattle.planner.proofs.Loops.{Filled, filled-start, halved, halved-next, back, back-step, back-end}
 use Rattle.planner.proofs.mark.take_back.Statement.{statement}
 use Rattle.planner.proofs.mark.take_back.Tie as tie
 
 abbrev Inv-loop : tie.InvT-loop
-Inv-loop slot mark s after n out₀ bits₀ i₀ out bits i = Written (back slot mark) s after i out × (bits ≡ halved mark i)
+Inv-loop rows n slot mark after out₀ bits₀ i₀ out bits i = Filled (back slot mark) n rows after i out × (bits ≡ halved mark i)
 
 abbrev μ-loop : tie.MeasureT-loop
-μ-loop slot mark s after n out₀ bits₀ i₀ out bits i = n - i
-
-tasks-in-requires : tie.Need-tasks-in-requires Inv-loop μ-loop
-tasks-in-requires c κs = search needs
+μ-loop rows n slot mark after out₀ bits₀ i₀ out bits i = n - i
 
 loop-holds : tie.Need-loop-holds Inv-loop μ-loop
 unfolding halved
-loop-holds c = (search (needs, written-start), refl)
-
-mul-t : tie.Need-mul-t Inv-loop μ-loop
-mul-t c = search needs
-
-element-copy-out-t : tie.Need-element-copy-out-t Inv-loop μ-loop
-element-copy-out-t c = search needs
+loop-holds c = (search (needs, filled-start), refl)
 
 mul-at-end : tie.Need-mul-at-end Inv-loop μ-loop
 mul-at-end c = search needs
+
+mul-at-end-2 : tie.Need-mul-at-end-2 Inv-loop μ-loop
+mul-at-end-2 c = search needs
 
 array-read-at-end : tie.Need-array-read-at-end Inv-loop μ-loop
 array-read-at-end c = search needs
 
 at-end-requires : tie.Need-at-end-requires Inv-loop μ-loop
-at-end-requires c κs = search needs
+at-end-requires c κs = search (needs, laid-row)
 
 less-bit-requires : tie.Need-less-bit-requires Inv-loop μ-loop
 less-bit-requires c κs = search needs
@@ -53,19 +48,18 @@ loop-less c = search needs
 
 loop-again : tie.Need-loop-again Inv-loop μ-loop
 loop-again c =
-    let l = c .before .before .before .before in
-    let a = l .before .before .args in (
-      written-step (back (a .slot) (a .mark)) (a .t1) (a .t3) (l .loop .i) (c .less-bit .result) (l .loop .out) (l .loop .inv .0) (search needs)
-          (back-at (a .slot) (a .mark) (l .loop .i) _ _ (c .before .at-end .result) (c .less-bit .result) (l .loop .bits) (l .loop .inv .1) (c .before .at-end .ensures) (c .less-bit .ensures)),
-      halved-next (a .mark) (l .loop .bits) (l .loop .i) (l .loop .inv .1),
+    let l = c .before .before .before in
+    let a = l .before .before .args in
+    let i = l .loop .i in
+    let bits = l .loop .bits in
+    let v = l .loop .inv in (
+      back-step (a .slot) (a .mark) (a .n) (a .rows .now) (a .t4) i bits (l .loop .out) (v .0) (v .1) (c .before .before .loop-test .taken)
+          (c .before .at-end .result) (c .less-bit .result) (c .before .at-end .ensures) (c .less-bit .ensures),
+      halved-next (a .mark) bits i (v .1),
     )
 
 returns : tie.Need-returns Inv-loop μ-loop
-returns c =
-    let l = c .before in
-    let a = l .before .before .args in
-    written-end (back (a .slot) (a .mark)) (a .t1) (a .t3) (l .loop .i) (l .loop .out) (l .loop .inv .0) (search needs)
-    ∙ ap arrayOf (lowered-all (a .slot) (a .mark) (setOf (a .t1)) (progressOf (a .t1) (a .t3)))
+returns c = search (needs, back-end)
 
 pub take-back-spec : {M : Type 1} → statement M
 take-back-spec =
@@ -73,11 +67,9 @@ take-back-spec =
     (tie.spec
     Inv-loop
     μ-loop
-    tasks-in-requires
     loop-holds
-    mul-t
-    element-copy-out-t
     mul-at-end
+    mul-at-end-2
     array-read-at-end
     at-end-requires
     less-bit-requires

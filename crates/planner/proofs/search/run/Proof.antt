@@ -10,16 +10,16 @@ use Rattle.planner.proofs.search.run.Statement.{statement}
 use Rattle.planner.proofs.search.run.Tie as tie
 
 abbrev Inv-loop : tie.InvT-loop
-Inv-loop s h room table₀ area₀ at₀ table area at = Underway s h room table₀ area₀ table area at
+Inv-loop rows n h room table₀ area₀ at₀ table area at = Underway n rows h room table₀ area₀ table area at
 
 abbrev μ-loop : tie.MeasureT-loop
-μ-loop s h room table₀ area₀ at₀ table area at = left room h (at .recorded) (at .slot) (at .choice)
+μ-loop rows n h room table₀ area₀ at₀ table area at = left room h (at .recorded) (at .slot) (at .choice)
 
 loop-holds : tie.Need-loop-holds Inv-loop μ-loop
-loop-holds c = underway-start _ _ _ _ _ (c .before .before .pre)
+loop-holds c = underway-start _ _ _ _ _ _ (c .before .before .before .pre)
 
 step-requires : tie.Need-step-requires Inv-loop μ-loop
-step-requires c κs = step-fits _ _ _ _ _ _ _ _ (c .before .before .loop .inv)
+step-requires c κs = step-fits _ _ _ _ _ _ _ _ _ (c .before .before .loop .inv)
 
 enum-told : tie.Need-enum-told Inv-loop μ-loop
 enum-told c = search needs
@@ -28,13 +28,13 @@ loop-less : tie.Need-loop-less Inv-loop μ-loop
 loop-less c =
     let r = c .before .before in
     let p = r .before .before .before .before .before in
-    step-less _ _ _ _ _ _ _ _ (p .before .before .before .loop .inv) _ _ _ (p .step .ensures) (c .enum-told .given .1)
+    step-less _ _ _ _ _ _ _ _ _ (p .before .before .before .loop .inv) _ _ _ (p .step .ensures) (c .enum-told .given .1)
 
 loop-again : tie.Need-loop-again Inv-loop μ-loop
 loop-again c =
     let r = c .before .before in
     let p = r .before .before .before .before .before in
-    underway-step _ _ _ _ _ _ _ _ (p .before .before .before .loop .inv) _ _ _ (p .step .ensures) (c .enum-told .given .1)
+    underway-step _ _ _ _ _ _ _ _ _ (p .before .before .before .loop .inv) _ _ _ (p .step .ensures) (c .enum-told .given .1)
 
 enum-told-2 : tie.Need-enum-told-2 Inv-loop μ-loop
 enum-told-2 c = search needs
@@ -50,7 +50,7 @@ unfolding statusOf endOf
 returns c =
     let r = c .before .before in
     let p = r .before .before .before .before .before in
-    stops _ _ _ _ _ _ _ _ (p .before .before .before .loop .inv) _ _ _ (p .step .ensures) _ Schedule (c .enum-told2 .given .1) refl
+    stops _ _ _ _ _ _ _ _ _ (p .before .before .before .loop .inv) _ _ _ (p .step .ensures) _ Schedule (c .enum-told2 .given .1) refl
 
 enum-told-3 : tie.Need-enum-told-3 Inv-loop μ-loop
 enum-told-3 c = search needs
@@ -66,7 +66,7 @@ unfolding statusOf endOf
 returns-2 c =
     let r = c .before .before in
     let p = r .before .before .before .before .before in
-    stops _ _ _ _ _ _ _ _ (p .before .before .before .loop .inv) _ _ _ (p .step .ensures) _ Infeasible (c .enum-told3 .given .1) refl
+    stops _ _ _ _ _ _ _ _ _ (p .before .before .before .loop .inv) _ _ _ (p .step .ensures) _ Infeasible (c .enum-told3 .given .1) refl
 
 enum-told-4 : tie.Need-enum-told-4 Inv-loop μ-loop
 enum-told-4 c = search needs
@@ -82,7 +82,7 @@ unfolding statusOf endOf
 returns-3 c =
     let r = c .before .before in
     let p = r .before .before .before .before .before in
-    stops _ _ _ _ _ _ _ _ (p .before .before .before .loop .inv) _ _ _ (p .step .ensures) _ OutOfRoom (c .enum-told4 .given .1) refl
+    stops _ _ _ _ _ _ _ _ _ (p .before .before .before .loop .inv) _ _ _ (p .step .ensures) _ OutOfRoom (c .enum-told4 .given .1) refl
 
 pub run-spec : {M : Type 1} → statement M
 run-spec =
