@@ -15,12 +15,9 @@ use Rattle.rules.proofs.Lists.{clash}
 use Rattle.rules.proofs.Run.Reach.{ended-at, next-length, next-at}
 use Rattle.planner.specs.Marks.{mark}
 use Rattle.planner.specs.Ahead.{stayed, onward, wellAfter, gone, claim, claimed, leadsBy}
+use Rattle.planner.proofs.Marks.{and-false}
 
 -- ── tests ───────────────────────────────────────────────────────────────────
-
-and-false : (b : Bool) → b && false ≡ false
-and-false true = refl
-and-false false = refl
 
 and-assoc : (a b c : Bool) → (a && b) && c ≡ a && (b && c)
 and-assoc true b c = refl

@@ -22,7 +22,7 @@ use Rattle.tasks.specs.declared.Standing.{Standing}
 use Rattle.tasks.specs.Views.{standingOf}
 use Rattle.planner.specs.Rows.{taskAt, rowTasks, Row, Laid, Modest}
 use Rattle.planner.specs.Marks.{mark, lowered, raised, unstarted, chosen, marks, spelled, Listed}
-use Rattle.planner.proofs.Places.{rows-length, row-at, laid-some}
+use Rattle.planner.proofs.Places.{rows-length, row-at, laid-some, take-replicate}
 use Rattle.planner.proofs.Marks.{legal-allowed, chosen-is, raised-ended, next-fits, start-fits}
 
 -- ── a number for each task ──────────────────────────────────────────────────
@@ -216,11 +216,6 @@ module _ (b n : ℕ) (rows p : List ℕ) where
   looked-end i bits v h = sym (v .rest ∙ rw (drop-of-length-le tasks {i = i} (omega (arith, rows-length n rows))))
 
 -- ── marks into choices ──────────────────────────────────────────────────────
-
-take-replicate : (n k a : ℕ) → n ≤ k → take n (replicate k a) ≡ replicate n a
-take-replicate zero k a h = refl
-take-replicate (suc n) zero a h = let z : ⊥ = omega arith in absurd z
-take-replicate (suc n) (suc k) a h = ap (λ l. a ∷ l) (take-replicate n k a (omega arith))
 
 module _ (n : ℕ) (rows : List ℕ) (h : ℕ) (given : List ℕ) where
   abbrev held : List model.Task

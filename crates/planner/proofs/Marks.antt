@@ -130,7 +130,7 @@ module _ (s : List Task) (x : Position) (long : length (x .progress) ≡ length 
 
 -- ── the choice of a slot ────────────────────────────────────────────────────
 
-and-false : (b : Bool) → b && false ≡ false
+pub and-false : (b : Bool) → b && false ≡ false
 and-false true = refl
 and-false false = refl
 

@@ -1,9 +1,9 @@
--- The tasks of rows, place by place.
-use mathlib.Core.Path.{_≡_, ap, _∙_}
-use mathlib.Core.List.{List}
-use Prim.Native.Nat.{ℕ, _*_, _<_}
+-- The tasks of rows, place by place, and the progress that a search begins with.
+use mathlib.Core.Path.{_≡_, refl, ap, _∙_}
+use mathlib.Core.List.{List, _∷_}
+use Prim.Native.Nat.{ℕ, zero, suc, _*_, _≤_, _<_}
 use native.Mathlib.Omega.{arith}
-use lib.ListN.{length, getD}
+use lib.ListN.{length, getD, take, replicate}
 use Rattle.rules.specs.Tasks.{noTask}
 use Rattle.rules.proofs.Lists.{tabulate-length, tabulate-at}
 use Rattle.planner.specs.Rows.{taskAt, rowTasks, Row, Laid}
@@ -22,3 +22,9 @@ laid-row n rows i l h = l .row i h
 pub laid-some : (n : ℕ) (rows : List ℕ) (i : ℕ) → Laid n rows → i < n → 0 < taskAt rows (i * 16) .period
 unfolding taskAt
 laid-some n rows i l h = l .row i h .some
+
+-- the first of the eight zeros that a search begins with
+pub take-replicate : (n k a : ℕ) → n ≤ k → take n (replicate k a) ≡ replicate n a
+take-replicate zero k a h = refl
+take-replicate (suc n) zero a h = let z : ⊥ = omega arith in absurd z
+take-replicate (suc n) (suc k) a h = ap (λ l. a ∷ l) (take-replicate n k a (omega arith))

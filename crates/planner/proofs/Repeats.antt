@@ -24,20 +24,15 @@ use Rattle.planner.specs.Rows.{taskAt, rowTasks, Laid}
 use Rattle.planner.specs.Machine as machine
 use Rattle.planner.specs.Machine.{Machine, isGoing, giving, leadsOn, pushed, passedOver, stepOf, Tries, adds, passes, spent, Took, once, tries, Reaches, ends, steps, opened}
 use Rattle.planner.specs.Views.{statusOf, machineOf, Fits, Opening, endOf, Ran}
-use Rattle.planner.proofs.Places.{rows-length, row-at}
+use Rattle.planner.proofs.Places.{rows-length, row-at, take-replicate}
 use Rattle.planner.proofs.Searching.{Setting, Choice, Searching, opened-searching, step-searching, step-falls}
-use Rattle.planner.proofs.Bounds.{room-holds, area-length, hyper-within}
+use Rattle.planner.proofs.Bounds.{room-holds, area-length}
 
 over : (w : Word) → isGoing (endOf w) ≡ false
 unfolding isGoing endOf
 over Schedule = refl
 over Infeasible = refl
 over OutOfRoom = refl
-
-pub take-replicate : (n k a : ℕ) → n ≤ k → take n (replicate k a) ≡ replicate n a
-take-replicate zero k a h = refl
-take-replicate (suc n) zero a h = let z : ⊥ = omega arith in absurd z
-take-replicate (suc n) (suc k) a h = ap (λ l. a ∷ l) (take-replicate n k a (omega arith))
 
 -- ── choices tried are steps ─────────────────────────────────────────────────
 

@@ -27,7 +27,7 @@ use Rattle.planner.specs.Marks.{spelled, Listed}
 use Rattle.planner.specs.Machine.{Reaches, opened}
 use Rattle.planner.specs.Views.{wordOf, answerOf, Opening, endOf, Ran}
 use Rattle.planner.proofs.LaidOut.{rows-tasks, rows-laid}
-use Rattle.planner.proofs.Repeats.{take-replicate}
+use Rattle.planner.proofs.Places.{take-replicate}
 use Rattle.planner.proofs.Meets.{reaches-listed, reaches-size, plan-setting, plan-found, plan-failed, plan-full, plan-dead}
 
 start-position : (s : TaskSet) → start (setOf s) ≡ positionOf s 0 (replicate 8 0)

@@ -20,7 +20,7 @@ use Rattle.planner.specs.Area.{among}
 use Rattle.planner.specs.Ahead.{Ahead, leadsBy, leadsTask, gone, First}
 use Rattle.planner.specs.Machine.{Machine, following, here, leadsOn, pushed, passedOver, Tries, adds, passes, spent}
 use Rattle.planner.specs.Views.{machineOf, Trying}
-use Rattle.planner.proofs.Marks.{mark-byte}
+use Rattle.planner.proofs.Marks.{mark-byte, and-false}
 use Rattle.planner.proofs.Steps.{behind-idle, behind-last, behind-task}
 use Rattle.planner.proofs.Places.{rows-length}
 use Rattle.planner.proofs.Firsts.{leads-some, first-found, first-missed}
@@ -29,10 +29,6 @@ use Rattle.planner.proofs.Judgement.{legal-task, legal-idle, next-task,
 and-left : (a b : Bool) → a && b ≡ true → a ≡ true
 and-left true b e = refl
 and-left false b e = clash-bool e
-
-and-false : (b : Bool) → b && false ≡ false
-and-false true = refl
-and-false false = refl
 
 -- the machine with another choice to try
 abbrev trying : Machine → ℕ → Machine
