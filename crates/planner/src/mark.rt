@@ -6,7 +6,7 @@ use tasks::Standing;
 ghost use mathlib.Core.Path.{_≡_};
 ghost use mathlib.Core.Bool.{cond, _&&_};
 ghost use mathlib.Core.List.{_++_};
-ghost use Prim.Native.Nat.{suc, _+_, _-_, _%_, _≤_, _<_};
+ghost use Prim.Native.Nat.{suc, _+_, _-_, _%_, _≤_};
 ghost use lib.Dec.{eqb};
 ghost use lib.ListN.{length, take, drop};
 ghost use Rattle.rules.specs.Tasks.{span, standing, isReady};

@@ -52,7 +52,7 @@ module _ (st : State) (ok : T (form (stateOf st))) where
       let a = T-and (eqb (recordRefusal (recordOf (st .set))) 0) _ ok in
       (eqb→eq (recordRefusal (recordOf (st .set))) 0 (a .0), T-and (inUseForm (setIn (recordOf (st .set))) (inUse (stateOf st))) _ (a .1) .0)
 
-  pub few : st .set .count ≤ 8
+  few : st .set .count ≤ 8
   unfolding recordOf
   few = counts (recordOf (st .set)) (parts .0) .high
 
@@ -88,7 +88,7 @@ module _ (st : State) (ok : T (form (stateOf st))) where
   period-is h e = e ∙ rw (le-leb (hyper (setIn (recordOf (st .set)))) 4096 (hyper-small (recordOf (st .set)) (parts .0))) refl
 
   -- each task's job has the form
-  pub job-formed : (i : ℕ) → i < st .set .count → T (jobForm (taskOf (getD (st .set .tasks) i noEntry)) (eqb (st .last) i) (jobOf (getD (st .jobs) i noJob)))
+  job-formed : (i : ℕ) → i < st .set .count → T (jobForm (taskOf (getD (st .set .tasks) i noEntry)) (eqb (st .last) i) (jobOf (getD (st .jobs) i noJob)))
   job-formed i h =
       let l = tasks-are in
       let z : 0 + i ≡ i = omega arith in
@@ -213,11 +213,15 @@ pub sofar-start : (st : State) (table reports : List ℕ) (j : Job) → T (form 
 sofar-start st table reports j ok below counted e = record { ok = ok; below = below; counted = counted; within = omega arith; taken = taken-start st table reports ok below j e }
 
 module _ (st : State) (table reports : List ℕ) (i : ℕ) (js : List Job) (fs : List ℕ) (runner : ℕ) (s : SoFar st table reports i js fs runner) where
-  pub sofar-count : i < length reports → i < st .set .count
+  sofar-count : i < length reports → i < st .set .count
   sofar-count h = let e = s .counted in omega arith
 
   pub sofar-eight : i < length reports → i < 8
   sofar-eight h = let e = s .counted in let f = few st (s .ok) in omega arith
+
+  -- what the turn of the task at place i requires
+  pub sofar-formed : i < length reports → T (jobForm (taskOf (getD (st .set .tasks) i noEntry)) (eqb (st .last) i) (jobOf (getD (st .jobs) i noJob)))
+  sofar-formed h = job-formed st (s .ok) i (sofar-count h)
 
   module _ (j : Job) (b : Bool) (f : ℕ) (h : i < length reports) (ej : jobOf j ≡ codeTurn st table reports (s .ok) (s .below) i .job) (eb : b ≡ codeTurn st table reports (s .ok) (s .below) i .runs)
       (ef : f ≡ codeTurn st table reports (s .ok) (s .below) i .fault) where
