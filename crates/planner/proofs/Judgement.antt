@@ -13,37 +13,13 @@ use Rattle.rules.specs.Tasks.{Task, noTask, Standing, ready, waiting, done, sta
 use Rattle.rules.specs.Positions.{Position, idle, each, every, allowed, moved, passed, ended, starts, restarted, next, inTime, livePosition, endsWell, endsLive, legal}
 use Rattle.rules.proofs.Lists.{clash}
 use Rattle.rules.proofs.Run.Reach.{ended-at, next-length, next-at}
+use Rattle.tasks.proofs.Slotwise.{legal-well}
 use Rattle.planner.specs.Marks.{mark}
-use Rattle.planner.specs.Ahead.{stayed, onward, wellAfter, gone, claim, claimed, leadsBy}
+use Rattle.tasks.specs.Slots.{onward, wellAfter}
+use Rattle.planner.specs.Ahead.{stayed, gone, claim, claimed, leadsBy}
 use Rattle.planner.proofs.Marks.{and-false}
 
 -- ── tests ───────────────────────────────────────────────────────────────────
-
-and-assoc : (a b c : Bool) → (a && b) && c ≡ a && (b && c)
-and-assoc true b c = refl
-and-assoc false b c = refl
-
-and-swap : (a b c d : Bool) → (a && b) && (c && d) ≡ (a && c) && (b && d)
-and-swap true true c d = refl
-and-swap true false c d = sym (and-false c)
-and-swap false b c d = refl
-
--- ── the two tests of a slot's end are one ───────────────────────────────────
-
-ends-live : (t i : ℕ) (s : List Task) (qs : List ℕ)
-    → every (endsWell t) s qs && every (λ τ p. inTime (suc t % τ .period) τ p) s (each (restarted (suc t)) i s qs) ≡ every (wellAfter t) s qs
-unfolding every each restarted wellAfter onward
-ends-live t i [] qs = refl
-ends-live t i (τ ∷ s) [] = refl
-ends-live t i (τ ∷ s) (q ∷ qs) =
-    and-swap (endsWell t τ q) (every (endsWell t) s qs) (inTime (suc t % τ .period) τ (cond (starts (suc t) τ) 0 q)) _
-    ∙ ap (λ b. (endsWell t τ q && inTime (suc t % τ .period) τ (cond (starts (suc t) τ) 0 q)) && b) (ends-live t (suc i) s qs)
-
-legal-well : (s : List Task) (x : Position) (c : ℕ) → legal s x c ≡ allowed s (x .progress) c && every (wellAfter (x .slot)) s (ended s (x .progress) c)
-unfolding legal endsLive livePosition next
-legal-well s x c =
-    and-assoc (allowed s (x .progress) c) (every (endsWell (x .slot)) s (ended s (x .progress) c)) _
-    ∙ ap (λ b. allowed s (x .progress) c && b) (ends-live (x .slot) 0 s (ended s (x .progress) c))
 
 -- ── where no task is chosen ─────────────────────────────────────────────────
 

@@ -20,6 +20,7 @@ use Rattle.rules.proofs.Laws.{T-and, le-or-lt, each-at, each-length}
 use Rattle.rules.proofs.Run.Reach.{next-length}
 use Rattle.tasks.specs.declared.Standing.{Standing}
 use Rattle.tasks.specs.Views.{standingOf}
+use Rattle.tasks.proofs.Slotwise.{starts-full}
 use Rattle.planner.specs.Rows.{taskAt, rowTasks, Row, Laid, Modest}
 use Rattle.planner.specs.Marks.{mark, lowered, raised, unstarted, chosen, marks, spelled, Listed}
 use Rattle.planner.proofs.Places.{rows-length, row-at, laid-some, take-replicate}
@@ -116,23 +117,10 @@ module _ (slot b n : ℕ) (rows ps : List ℕ) where
 unfoldable pub forth : ℕ → ℕ → ℕ → model.Task → ℕ → ℕ
 forth slot b i τ p = restarted (suc slot) i τ (p + halved b i % 2)
 
--- a job starts again where the time since release is the period
-full-starts : (slot : ℕ) (τ : model.Task) → 0 < τ .period → eqb (suc (slot % τ .period)) (τ .period) ≡ starts (suc slot) τ
-unfolding starts
-full-starts slot τ h = go (le-or-lt (τ .period) (suc (slot % τ .period)))
-  where
-    go : (τ .period ≤ suc (slot % τ .period)) ⊎ (suc (slot % τ .period) < τ .period) → eqb (suc (slot % τ .period)) (τ .period) ≡ eqb (suc slot % τ .period) 0
-    go (inl l) =
-        let z : suc (slot % τ .period) ≡ τ .period = omega (arith, mod-lt slot h) in
-        eq-eqb (suc (slot % τ .period)) (τ .period) z ∙ sym (eq-eqb (suc slot % τ .period) 0 (suc-mod slot (τ .period) ∙ ap (λ k. k % τ .period) z ∙ mod-self (τ .period)))
-    go (inr l) =
-        let z : suc slot % τ .period ≡ suc (slot % τ .period) = suc-mod slot (τ .period) ∙ mod-eq-of-lt l in
-        ne-eqb (suc (slot % τ .period)) (τ .period) (λ e. let y : ⊥ = omega arith in y) ∙ sym (ne-eqb (suc slot % τ .period) 0 (λ e. let y : ⊥ = omega arith in y))
-
 forth-at : (slot b i : ℕ) (τ : model.Task) (p q since r bits : ℕ) → 0 < τ .period → bits ≡ halved b i → q ≡ p + bits % 2 → since ≡ suc (slot % τ .period) → r ≡ cond (eqb since (τ .period)) 0 q
     → r ≡ forth slot b i τ p
 unfolding forth restarted
-forth-at slot b i τ p q since r bits h e f g k = k ∙ rw (g, full-starts slot τ h, f, e)
+forth-at slot b i τ p q since r bits h e f g k = k ∙ rw (g, ← starts-full slot τ, f, e)
 
 raised-each : (slot b i : ℕ) (s : List model.Task) (ps : List ℕ) → each (forth slot b) i s ps ≡ each (restarted (suc slot)) i s (raised (halved b i) ps)
 unfolding raised each forth halved

@@ -19,9 +19,11 @@ use Rattle.rules.proofs.Run.Reach.{since-suc, ended-length, ended-at}
 use Rattle.tasks.specs.declared.Standing as code
 use Rattle.tasks.specs.declared.Standing.the-variants.{Ready, Waiting, Done}
 use Rattle.tasks.specs.Views.{standingOf}
+use Rattle.tasks.proofs.Slotwise.{starts-full}
 use Rattle.planner.specs.Rows.{taskAt, rowTasks, Row, Laid}
 use Rattle.planner.specs.Marks.{mark}
-use Rattle.planner.specs.Ahead.{stayed, onward, wellAfter, gone, claim, claimed, leadsBy, Ahead}
+use Rattle.tasks.specs.Slots.{onward, wellAfter}
+use Rattle.planner.specs.Ahead.{stayed, gone, claim, claimed, leadsBy, Ahead}
 use Rattle.planner.proofs.Marks.{mark-byte}
 use Rattle.planner.proofs.Places.{rows-length, row-at}
 
@@ -59,22 +61,9 @@ module _ (rows : List ℕ) (at : ℕ) (R : Row rows at) where
   below-waiting p k e h = below p (rw (← e, h))
 
 module _ (τ : Task) (t : ℕ) (some : 0 < τ .period) where
-  starts-is : starts (suc t) τ ≡ eqb (suc (t % τ .period)) (τ .period)
-  unfolding starts
-  starts-is = go (eqb (suc (t % τ .period)) (τ .period)) refl
-    where
-      go : (b : Bool) → eqb (suc (t % τ .period)) (τ .period) ≡ b → eqb (suc t % τ .period) 0 ≡ b
-      go true e = eq-eqb (suc t % τ .period) 0 (suc-mod t (τ .period) ∙ ap (λ n. n % τ .period) (eqb-true _ _ e) ∙ mod-self (τ .period))
-      go false e =
-          let m : t % τ .period < τ .period = mod-lt t some in
-          let n = eqb-false (suc (t % τ .period)) (τ .period) e in
-          let l : suc (t % τ .period) < τ .period = omega arith in
-          let z : suc t % τ .period ≡ suc (t % τ .period) = suc-mod t (τ .period) ∙ mod-eq-of-lt l in
-          ne-eqb (suc t % τ .period) 0 (λ y. omega arith)
-
   onward-is : (p : ℕ) → onward t τ p ≡ cond (eqb (suc (t % τ .period)) (τ .period)) 0 p
   unfolding onward
-  onward-is p = rw starts-is
+  onward-is p = rw (starts-full t τ)
 
   well-is : τ .deadline ≤ τ .period → span τ ≤ τ .deadline → (p : ℕ) → wellAfter t τ p ≡ inTime (suc (t % τ .period)) τ p
   unfolding wellAfter endsWell onward
@@ -88,7 +77,7 @@ module _ (τ : Task) (t : ℕ) (some : 0 < τ .period) where
           → ((a && (not b || isDone (standing τ p))) && inTime (suc t % τ .period) τ (cond b 0 p)) ≡ a
       go false e b q = refl
       go true e true q =
-          let l : suc (t % τ .period) ≡ τ .period = eqb-true _ _ (sym starts-is ∙ q) in
+          let l : suc (t % τ .period) ≡ τ .period = eqb-true _ _ (sym (starts-full t τ) ∙ q) in
           let z : suc t % τ .period ≡ 0 = suc-mod t (τ .period) ∙ ap (λ n. n % τ .period) l ∙ mod-self (τ .period) in
           rw (T-true (isDone (standing τ p)) (span-isDone τ p (over l (true-T _ e) (le-or-lt (span τ) p))), z) (T-true (inTime 0 τ 0) (inTime-lax 0 τ 0 (omega arith) (omega arith)))
       go true e false q = rw (since-suc τ t some q) e

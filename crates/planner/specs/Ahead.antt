@@ -2,11 +2,12 @@
 use mathlib.Core.Path.{_≡_}
 use mathlib.Core.Bool.{Bool, true, false, not, cond, _&&_, _||_}
 use mathlib.Core.List.{List, [], _∷_}
-use Prim.Native.Nat.{ℕ, suc, _-_, _%_, _≤_, _<_}
+use Prim.Native.Nat.{ℕ, suc, _-_, _≤_, _<_}
 use lib.Dec.{eqb}
 use lib.ListN.{length, getD, take, set}
 use Rattle.rules.specs.Tasks.{Task, noTask, standing, isReady}
-use Rattle.rules.specs.Positions.{idle, moved, ended, starts, inTime, endsWell}
+use Rattle.rules.specs.Positions.{idle, moved, ended}
+use Rattle.tasks.specs.Slots.{onward, wellAfter}
 use Rattle.planner.specs.Marks.{mark}
 use Rattle.planner.specs.Area.{among}
 
@@ -14,15 +15,7 @@ use Rattle.planner.specs.Area.{among}
 unfoldable pub stayed : Task → ℕ → ℕ
 stayed τ p = moved (standing τ p) false p
 
--- its progress in the next slot, from that at the end of slot t: 0 where its job starts again
-unfoldable pub onward : ℕ → Task → ℕ → ℕ
-onward t τ p = cond (starts (suc t) τ) 0 p
-
--- with progress p it ends slot t well, and begins the next one live
-unfoldable pub wellAfter : ℕ → Task → ℕ → Bool
-wellAfter t τ p = endsWell t τ p && inTime (suc t % τ .period) τ (onward t τ p)
-
--- where it is ready, and chosen ends the slot well: one more than its progress in the next slot; else 0
+-- where a task is ready, and chosen ends the slot well: one more than its progress in the next slot; else 0
 unfoldable pub gone : ℕ → Task → ℕ → ℕ
 gone t τ p = cond (isReady (standing τ p) && wellAfter t τ (suc p)) (suc (onward t τ (suc p))) 0
 

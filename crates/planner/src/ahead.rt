@@ -10,8 +10,9 @@ ghost use Prim.Native.Nat.{suc, _+_, _*_, _^_, _≤_, _<_};
 ghost use lib.Dec.{eqb};
 ghost use lib.ListN.{length, take};
 ghost use Rattle.rules.specs.Positions.{inTime};
+ghost use Rattle.tasks.specs.Slots.{onward, wellAfter};
 ghost use Rattle.planner.specs.Rows.{taskAt, rowTasks, Row, Laid};
-ghost use Rattle.planner.specs.Ahead.{stayed, onward, wellAfter, gone, claim, leadsBy, Ahead};
+ghost use Rattle.planner.specs.Ahead.{stayed, gone, claim, leadsBy, Ahead};
 
 // One task: whether its progress rises unchosen, whether it ends the slot well unchosen, its progress in the next slot unchosen, and one more
 // than that chosen (0: it may not be chosen, or does not end the slot well).

@@ -3,3 +3,4 @@ pub mod OneTask
 pub mod Multiple
 pub mod Refusal
 pub mod Positions
+pub mod Slotwise

@@ -1,7 +1,7 @@
 -- Laws of one task: its pattern walked entry by entry, where progress stands in it, and its laxity in 32 bits.
 use mathlib.Core.Path.{_≡_, refl, sym, ap, ap₂, _∙_}
 use mathlib.Core.Logic.{_⊎_, inl, inr}
-use mathlib.Core.Bool.{Bool, true, false, not, cond}
+use mathlib.Core.Bool.{Bool, true, false, cond}
 use mathlib.Core.List.{List, [], _∷_}
 use Prim.Native.Nat.{ℕ, suc, _+_, _-_, _*_, _%_, _≤_, _<_, _^_}
 use native.Mathlib.Numerals.{add-one}
@@ -15,11 +15,11 @@ use mir.Syntax.{w8, w16, w32}
 use mir.Val.{Fits, SFits, hbits, toZ, ofZ}
 use mir.Facts.{toZ-pos, toZ-ofZ}
 use borrow.Author.Needs.{sfits-of}
-use borrow.Author.Tests.{lt-ltb, le-ltb, le-leb, not-true, not-false}
+use borrow.Author.Tests.{lt-ltb, le-ltb, le-leb}
 use Rattle.rules.specs.Tasks as model
 use Rattle.rules.specs.Tasks.{sum, span, Standing, ready, waiting, done, within, standing, isDone, placeOf}
-use Rattle.rules.specs.Positions.{starts, laxity, inTime, endsWell}
-use Rattle.rules.proofs.Laws.{le-or-lt, done-at, mag-sub, mag-less}
+use Rattle.rules.specs.Positions.{laxity, inTime}
+use Rattle.rules.proofs.Laws.{le-or-lt, done-at, undone, mag-sub, mag-less}
 use Rattle.rules.proofs.Lists.{clash-01, clash-bool}
 use Rattle.tasks.specs.declared.Task.{Task}
 use Rattle.tasks.specs.declared.Standing as code
@@ -185,39 +185,24 @@ module _ (a b x y : ℕ) (h : a + b < 2 ^ 20) (k : x + y < 2 ^ 20) where
   pub differences : toZ w32 (ofZ w32 (toZ w32 (ofZ w32 (toZ w32 a -ℤ toZ w32 b)) -ℤ toZ w32 (ofZ w32 (toZ w32 x -ℤ toZ w32 y)))) ≡ (pos a -ℤ pos b) -ℤ (pos x -ℤ pos y)
   differences = toZ-ofZ differences-fit ∙ ap₂ (λ u v. u -ℤ v) (difference a b h) (difference x y k)
 
--- ── in time, by how progress stands ─────────────────────────────────────────
+-- ── in time, by the progress and the length of the pattern ─────────────────
 
 from-zero : (z : ℤ) → leZ (pos 0) z ≡ nonNeg z
 from-zero (pos a) = le-leb 0 a (omega arith)
 from-zero (negsuc a) = refl
 
-module _ (τ : model.Task) (e p : ℕ) where
-  pub in-time-done : standing τ p ≡ done → true ≡ inTime e τ p
-  unfolding inTime isDone
-  in-time-done h = rw h
+module _ (τ : model.Task) (length p : ℕ) (whole : length ≡ span τ) where
+  pub done-from : length ≤ p → isDone (standing τ p) ≡ true
+  unfolding isDone
+  done-from h = ap isDone (done-at τ p (omega arith))
 
-  pub in-time-left : isDone (standing τ p) ≡ false → leZ (pos 0) (laxity τ e p) ≡ inTime e τ p
+  pub undone-till : p < length → isDone (standing τ p) ≡ false
+  undone-till h = undone τ p (omega arith)
+
+  pub in-time-done : (e : ℕ) → length ≤ p → true ≡ inTime e τ p
   unfolding inTime
-  in-time-left h = rw h (from-zero (laxity τ e p))
+  in-time-done e h = rw (done-from h)
 
--- ── the end of a slot, as the code tests it ─────────────────────────────────
-
-module _ (t : ℕ) (τ : model.Task) (p r : ℕ) (b : Bool) (since : r ≡ t % τ .period) (live : b ≡ inTime (r + 1) τ p) where
-  one-on : inTime (suc (t % τ .period)) τ p ≡ b
-  one-on = let e : suc (t % τ .period) ≡ r + 1 = omega arith in ap (λ n. inTime n τ p) e ∙ sym live
-
-  pub ends-late : not b ≡ true → false ≡ endsWell t τ p
-  unfolding endsWell
-  ends-late h = rw (one-on, not-true b h)
-
-  module _ (s : Bool) (h : not b ≡ false) (begins : s ≡ starts (t + 1) τ) where
-    restarts : starts (suc t) τ ≡ s
-    restarts = ap (λ n. starts n τ) (sym (add-one t)) ∙ sym begins
-
-    pub ends-amid : not s ≡ true → true ≡ endsWell t τ p
-    unfolding endsWell
-    ends-amid k = rw (one-on, not-false b h, restarts, not-true s k)
-
-    pub ends-period : (d : code.Standing) → not s ≡ false → standingOf d ≡ standing τ p → isDone (standingOf d) ≡ endsWell t τ p
-    unfolding endsWell
-    ends-period d k e = rw (one-on, not-false b h, restarts, not-false s k, e)
+  pub in-time-left : (e : ℕ) → p < length → leZ (pos 0) (laxity τ e p) ≡ inTime e τ p
+  unfolding inTime
+  in-time-left e h = rw (undone-till h) (from-zero (laxity τ e p))

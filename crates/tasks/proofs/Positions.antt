@@ -1,4 +1,4 @@
--- Positions by place: what a loop over the tasks in use keeps, for a test of each (`every`) and for a number for each (`each`), and where a choice leads.
+-- Positions by place: what a loop over the tasks in use keeps, for a test of each (`every`) and for a number for each (`each`); and which choices are allowed.
 use mathlib.Core.Path.{_≡_, refl, sym, ap, _∙_}
 use mathlib.Core.Bool.{Bool, true, false, not, _&&_}
 use mathlib.Core.Logic.{_⊎_, inl, inr}
@@ -8,15 +8,15 @@ use native.Mathlib.Numerals.{add-one, unary-clauses}
 use native.Mathlib.Omega.{arith}
 use borrow.Author.Tests.{eq-eqb, ne-eqb, not-true, not-false}
 use lib.ListN.{length, getD, take, drop, set, replicate, drop-of-length-le, List·getD-eq-default}
-use lib.Seq.{getD-take, length-take-le, take-all, take-at, drop-cons, set-getD}
+use lib.Seq.{getD-take, length-take-le, take-all, take-at, drop-cons}
 use Rattle.rules.specs.Lists.{padded}
 use Rattle.rules.specs.Tasks as model
 use Rattle.rules.specs.Tasks.{noTask, within, standing, isReady}
-use Rattle.rules.specs.Positions.{idle, each, every, allowed, passed, ended, starts, restarted, next, livePosition, endsWell, endsLive, legal}
+use Rattle.rules.specs.Positions.{idle, each, every, allowed}
 use Rattle.rules.proofs.Laws.{le-or-lt, each-at, each-length}
 use Rattle.tasks.specs.declared.TaskSet.{TaskSet}
 use Rattle.tasks.specs.declared.Standing.{Standing}
-use Rattle.tasks.specs.Views.{noEntry, taskOf, setOf, progressOf, positionOf, arrayOf, standingOf}
+use Rattle.tasks.specs.Views.{noEntry, taskOf, setOf, progressOf, arrayOf, standingOf}
 use Rattle.tasks.proofs.Views.{set-few, set-all, set-at}
 
 -- ── the tasks in use and their progress ─────────────────────────────────────
@@ -85,13 +85,6 @@ pad-set (suc n) [] i h k = let z : ⊥ = omega arith in absurd z
 pad-set (suc n) (x ∷ xs) zero h k = simp unary-clauses refl
 pad-set (suc n) (x ∷ xs) (suc i) h k = simp unary-clauses (ap (λ ys. x ∷ ys) (pad-set n xs i (omega arith) (omega arith)))
 
-pad-at : (n : ℕ) (xs : List ℕ) (i : ℕ) → i < length xs → i < n → getD (padded n 0 (take i xs)) i 0 ≡ 0
-unfolding padded
-pad-at zero xs i h k = let z : ⊥ = omega arith in absurd z
-pad-at (suc n) [] i h k = let z : ⊥ = omega arith in absurd z
-pad-at (suc n) (x ∷ xs) zero h k = simp unary-clauses refl
-pad-at (suc n) (x ∷ xs) (suc i) h k = simp unary-clauses (pad-at n xs i (omega arith) (omega arith))
-
 module _ (f : ℕ → model.Task → ℕ → ℕ) (s : TaskSet) (p : List ℕ) where
   -- the numbers before place i are written, and zeros from there on
   pub record Written (i : ℕ) (out : List ℕ) : Type 0 where
@@ -102,7 +95,7 @@ module _ (f : ℕ → model.Task → ℕ → ℕ) (s : TaskSet) (p : List ℕ) w
   pub each-long : length p ≡ 8 → length (each f 0 (setOf s) (progressOf s p)) ≡ length (setOf s)
   each-long e = each-length f 0 (setOf s) (progressOf s p) (progress-length s p e)
 
-  number-at : (i : ℕ) → length p ≡ 8 → i < length (setOf s)
+  pub number-at : (i : ℕ) → length p ≡ 8 → i < length (setOf s)
       → getD (each f 0 (setOf s) (progressOf s p)) i 0 ≡ f i (taskOf (getD (s .tasks) i noEntry)) (getD p i 0)
   number-at i e h = each-at f 0 (setOf s) (progressOf s p) i (progress-length s p e) h ∙ rw (task-at s i h, progress-at s p i h) (ap (λ j. f j (taskOf (getD (s .tasks) i noEntry)) (getD p i 0)) (omega arith))
 
@@ -118,27 +111,8 @@ module _ (f : ℕ → model.Task → ℕ → ℕ) (s : TaskSet) (p : List ℕ) w
       let b = v .few in
       record { eight = v .eight; few = v .few; done = rw (v .done, e, ← number-at i (v .eight) h, add-one) (pad-set 8 xs i (omega arith) (omega arith)) }
 
-  pub written-zero : (i : ℕ) (out : List ℕ) → Written i out → i < length (setOf s) → 0 ≡ f i (taskOf (getD (s .tasks) i noEntry)) (getD p i 0) → Written (i + 1) out
-  unfolding arrayOf
-  written-zero i out v h e =
-      let xs = each f 0 (setOf s) (progressOf s p) in
-      let l = each-long (v .eight) in
-      let b = v .few in
-      let z : getD out i 0 ≡ 0 = ap (λ o. getD o i 0) (v .done) ∙ pad-at 8 xs i (omega arith) (omega arith) in
-      let w = written-step i (getD out i 0) out v h (z ∙ e) in
-      record { eight = v .eight; few = v .few; done = sym (set-getD out i 0) ∙ w .done }
-
   pub written-end : (i : ℕ) (out : List ℕ) → Written i out → length (setOf s) ≤ i → out ≡ arrayOf (each f 0 (setOf s) (progressOf s p))
   written-end i out v h = let l = each-long (v .eight) in v .done ∙ ap arrayOf (take-all i (each f 0 (setOf s) (progressOf s p)) (omega arith))
-
--- a task starts again at 0, or its progress is kept
-pub begun-anew : (t i : ℕ) (τ : model.Task) (p : ℕ) (b : Bool) → b ≡ starts t τ → b ≡ true → 0 ≡ restarted t i τ p
-unfolding restarted
-begun-anew t i τ p b e k = rw (← e, k)
-
-pub carried : (t i : ℕ) (τ : model.Task) (p : ℕ) (b : Bool) → b ≡ starts t τ → b ≡ false → p ≡ restarted t i τ p
-unfolding restarted
-carried t i τ p b e k = rw (← e, k)
 
 -- ── a choice ────────────────────────────────────────────────────────────────
 
@@ -156,40 +130,3 @@ module _ (s : TaskSet) (p : List ℕ) (c : ℕ) where
       → standingOf k ≡ standing (taskOf (getD (s .tasks) c noEntry)) (getD p c 0) → k ≡ r → isReady (standingOf r) ≡ allowed (setOf s) (progressOf s p) c
   unfolding allowed idle
   task-may k r n h e t = rw (ne-eqb c 255 n, task-at s c h, progress-at s p c h, ← e, t)
-
--- what a choice leads to: whether it is legal, and the progress after it
-abbrev pub Led : TaskSet → ℕ → List ℕ → ℕ → Bool → List ℕ → Type 0
-Led s slot p c legally begun =
-    (legally ≡ legal (setOf s) (positionOf s slot p) c) × (begun ≡ arrayOf (next (setOf s) (positionOf s slot p) c .progress))
-
--- where a choice leads: the end of the slot, the restart, the tests in order
-module _ (s : TaskSet) (slot : ℕ) (p : List ℕ) (c : ℕ) (end begun : List ℕ) (m : Bool) (eight : length p ≡ 8)
-    (e : end ≡ arrayOf (ended (setOf s) (progressOf s p) c))
-    (b : begun ≡ arrayOf (each (restarted (slot + 1)) 0 (setOf s) (progressOf s end)))
-    (a : m ≡ allowed (setOf s) (progressOf s p) c) where
-  end-progress : progressOf s end ≡ ended (setOf s) (progressOf s p) c
-  unfolding ended
-  end-progress = ap (progressOf s) e ∙ progress-array s (ended (setOf s) (progressOf s p) c) (each-long (passed c) s p eight)
-
-  lands : begun ≡ arrayOf (next (setOf s) (positionOf s slot p) c .progress)
-  unfolding next positionOf
-  lands = b ∙ rw (end-progress, add-one) refl
-
-  next-position : positionOf s (slot + 1) begun ≡ next (setOf s) (positionOf s slot p) c
-  unfolding next positionOf ended
-  next-position =
-      let l = each-length (restarted (suc slot)) 0 (setOf s) (ended (setOf s) (progressOf s p) c) (each-long (passed c) s p eight) in
-      rw (lands, progress-array s (next (setOf s) (positionOf s slot p) c .progress) l, add-one) refl
-
-  pub not-allowed : not m ≡ true → Led s slot p c false begun
-  unfolding legal endsLive positionOf
-  not-allowed t = (rw (← a, not-true m t), lands)
-
-  pub ends-ill : (w : Bool) → not m ≡ false → w ≡ every (endsWell slot) (setOf s) (progressOf s end) → not w ≡ true → Led s slot p c false begun
-  unfolding legal endsLive positionOf
-  ends-ill w t f u = (rw (← a, not-false m t, ← end-progress, ← f, not-true w u), lands)
-
-  pub leads : (w l : Bool) → not m ≡ false → w ≡ every (endsWell slot) (setOf s) (progressOf s end) → not w ≡ false
-      → l ≡ livePosition (setOf s) (positionOf s (slot + 1) begun) → Led s slot p c l begun
-  unfolding legal endsLive positionOf
-  leads w l t f u v = (rw (← a, not-false m t, ← end-progress, ← f, not-false w u) (v ∙ ap (livePosition (setOf s)) next-position), lands)

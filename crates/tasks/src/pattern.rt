@@ -2,11 +2,13 @@
 use crate::Standing;
 use crate::Task;
 ghost use mathlib.Core.Path.{_≡_};
+ghost use mathlib.Core.Bool.{_&&_};
 ghost use Prim.Native.Nat.{_≤_, _%_};
 ghost use lib.ListN.{length, getD};
-ghost use Rattle.rules.specs.Tasks.{span, placeOf, standing};
-ghost use Rattle.rules.specs.Positions.{moved, starts, laxity, inTime, endsWell};
+ghost use Rattle.rules.specs.Tasks.{span, placeOf, standing, isDone};
+ghost use Rattle.rules.specs.Positions.{moved, starts, laxity, inTime};
 ghost use Rattle.tasks.specs.Views.{taskOf, standingOf};
+ghost use Rattle.tasks.specs.Slots.{onward, wellAfter};
 
 // The number of entries in use: 2m - 1, at most the seven of the array.
 pub fn fields(t: Task) -> usize
@@ -116,25 +118,26 @@ pub fn starts_at(t: Task, slot: u32) -> bool
 }
 
 // Laxity: the time to the deadline minus the pattern left; it may be below zero.
-fn laxity_at(t: Task, since: u32, progress: u16) -> i32
+fn laxity_at(t: Task, length: u16, since: u32, progress: u16) -> i32
     requires { ⌜ since ≤ 65536 ⌝ }
+    requires { ⌜ length ≡ span (taskOf t) ⌝ }
     ensures { λ r. ⌜ r ≡ laxity (taskOf t) since progress ⌝ }
 {
     let time_left = t.deadline as i32 - since as i32;
-    let pattern_left = whole(t) as i32 - progress as i32;
+    let pattern_left = length as i32 - progress as i32;
     time_left - pattern_left
 }
 
 // Done, or of laxity 0 or more.
-fn in_time(t: Task, since: u32, progress: u16) -> bool
+fn in_time(t: Task, length: u16, since: u32, progress: u16) -> bool
     requires { ⌜ since ≤ 65536 ⌝ }
+    requires { ⌜ length ≡ span (taskOf t) ⌝ }
     ensures { λ r. ⌜ r ≡ inTime since (taskOf t) progress ⌝ }
 {
-    match standing_at(t, progress) {
-        Standing::Done => true,
-        Standing::Ready => 0 <= laxity_at(t, since, progress),
-        Standing::Waiting => 0 <= laxity_at(t, since, progress),
+    if length <= progress {
+        return true;
     }
+    0 <= laxity_at(t, length, since, progress)
 }
 
 // In time at the start of a slot.
@@ -142,22 +145,45 @@ pub(crate) fn live_at(t: Task, slot: u32, progress: u16) -> bool
     requires { ⌜ slot ≤ 65536 ⌝ }
     ensures { λ r. ⌜ r ≡ inTime (slot % taskOf t .period) (taskOf t) progress ⌝ }
 {
-    in_time(t, since_release(t, slot), progress)
+    in_time(t, whole(t), since_release(t, slot), progress)
 }
 
-// The end of a slot is live, before restarting, and a job that must start again was done.
-pub fn ends_well(t: Task, slot: u16, progress: u16) -> bool
-    ensures { λ r. ⌜ r ≡ endsWell slot (taskOf t) progress ⌝ }
+// A job that ends its slot well, or not, starts again: it was done, and the new one has time for its pattern.
+fn starts_well(t: Task, length: u16, well: bool, end: u16) -> bool
+    requires { ⌜ length ≡ span (taskOf t) ⌝ }
+    ensures { λ r. ⌜ r ≡ well && (isDone (standing (taskOf t) end) && inTime 0 (taskOf t) 0) ⌝ }
 {
-    if !in_time(t, since_release(t, slot as u32) + 1, progress) {
+    if !well {
         return false;
     }
-    if !starts_at(t, slot as u32 + 1) {
-        return true;
+    if end < length {
+        return false;
     }
-    match standing_at(t, progress) {
-        Standing::Done => true,
-        Standing::Ready => false,
-        Standing::Waiting => false,
+    in_time(t, length, 0, 0)
+}
+
+// What a slot does to one task: whether it ends the slot well and begins the next one live, and its progress then.
+pub struct Passed {
+    pub well: bool,
+    pub progress: u16,
+}
+
+pub(crate) fn pass(t: Task, slot: u16, progress: u16, chosen: bool) -> Passed
+    ensures ending { λ r. ⌜ r .well ≡ wellAfter slot (taskOf t) (moved (standing (taskOf t) progress) chosen progress) ⌝ }
+    ensures on { λ r. ⌜ r .progress ≡ onward slot (taskOf t) (moved (standing (taskOf t) progress) chosen progress) ⌝ }
+{
+    let end = moved_on(t, chosen, progress);
+    let length = whole(t);
+    let since = since_release(t, slot as u32) + 1;
+    let well = in_time(t, length, since, end);
+    if since == t.period as u32 {
+        return Passed {
+            well: starts_well(t, length, well, end),
+            progress: 0,
+        };
+    }
+    Passed {
+        well,
+        progress: end,
     }
 }

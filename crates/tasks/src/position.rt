@@ -1,15 +1,14 @@
 // Positions: which are live, what a slot does, restarting, and choices that lead on.
 use crate::Standing;
 use crate::TaskSet;
-use crate::pattern::ends_well;
 use crate::pattern::live_at;
-use crate::pattern::moved_on;
+use crate::pattern::pass;
 use crate::pattern::standing_at;
-use crate::pattern::starts_at;
 use crate::set::tasks_in;
 ghost use mathlib.Core.Path.{_≡_};
+ghost use mathlib.Core.Bool.{_&&_};
 ghost use Prim.Native.Nat.{_≤_};
-ghost use Rattle.rules.specs.Positions.{each, every, allowed, ended, restarted, next, livePosition, endsWell, endsLive, legal};
+ghost use Rattle.rules.specs.Positions.{allowed, next, livePosition, legal};
 ghost use Rattle.tasks.specs.Views.{setOf, progressOf, positionOf, arrayOf};
 
 // Every task in use that isn't done has laxity 0 or more.
@@ -55,55 +54,14 @@ pub fn may_choose(s: TaskSet, progress: [u16; 8], choice: u8) -> bool
     }
 }
 
-// The progress at the end of a slot, before restarting: the chosen task's rises, as does that of every task that waited.
-pub fn slot_end(s: TaskSet, progress: [u16; 8], choice: u8) -> [u16; 8]
-    ensures { λ r. ⌜ r ≡ arrayOf (ended (setOf s) (progressOf s progress) choice) ⌝ }
+// Both hold.
+fn both(a: bool, b: bool) -> bool
+    ensures { λ r. ⌜ r ≡ a && b ⌝ }
 {
-    let n = tasks_in(s);
-    let chosen = choice as usize;
-    let mut out = [0u16; 8];
-    let mut i = 0;
-    while i < n {
-        let t = s.tasks[i];
-        out[i] = moved_on(t, chosen == i, progress[i]);
-        i += 1;
+    if a {
+        return b;
     }
-    out
-}
-
-// The progress at the start of a slot: 0 for each task whose period divides it.
-pub fn restart(s: TaskSet, slot: u32, progress: [u16; 8]) -> [u16; 8]
-    ensures { λ r. ⌜ r ≡ arrayOf (each (restarted slot) 0 (setOf s) (progressOf s progress)) ⌝ }
-{
-    let n = tasks_in(s);
-    let mut out = [0u16; 8];
-    let mut i = 0;
-    while i < n {
-        let t = s.tasks[i];
-        if starts_at(t, slot) {
-            i += 1;
-        } else {
-            out[i] = progress[i];
-            i += 1;
-        }
-    }
-    out
-}
-
-// The end of a slot is live for every task, and each that must start again was done.
-fn all_end_well(s: TaskSet, slot: u16, progress: [u16; 8]) -> bool
-    ensures { λ r. ⌜ r ≡ every (endsWell slot) (setOf s) (progressOf s progress) ⌝ }
-{
-    let n = tasks_in(s);
-    let mut i = 0;
-    while i < n {
-        let t = s.tasks[i];
-        if !ends_well(t, slot, progress[i]) {
-            return false;
-        }
-        i += 1;
-    }
-    true
+    false
 }
 
 // Where a choice leads: whether it is an allowed choice to a live position, and the progress after it.
@@ -116,23 +74,20 @@ pub fn advance(s: TaskSet, slot: u16, progress: [u16; 8], choice: u8) -> Onward
     ensures leads { λ r. ⌜ r .legal ≡ legal (setOf s) (positionOf s slot progress) choice ⌝ }
     ensures lands { λ r. ⌜ r .progress ≡ arrayOf (next (setOf s) (positionOf s slot progress) choice .progress) ⌝ }
 {
-    let end = slot_end(s, progress, choice);
-    let after = slot as u32 + 1;
-    let begun = restart(s, after, end);
-    if !may_choose(s, progress, choice) {
-        return Onward {
-            legal: false,
-            progress: begun,
-        };
-    }
-    if !all_end_well(s, slot, end) {
-        return Onward {
-            legal: false,
-            progress: begun,
-        };
+    let n = tasks_in(s);
+    let chosen = choice as usize;
+    let mut legal = may_choose(s, progress, choice);
+    let mut out = [0u16; 8];
+    let mut i = 0;
+    while i < n {
+        let t = s.tasks[i];
+        let passed = pass(t, slot, progress[i], chosen == i);
+        out[i] = passed.progress;
+        legal = both(legal, passed.well);
+        i += 1;
     }
     Onward {
-        legal: all_in_time(s, after, begun),
-        progress: begun,
+        legal,
+        progress: out,
     }
 }

@@ -19,9 +19,6 @@ cast-time-left-2 c = search needs
 sub-time-left : tie.Need-sub-time-left
 sub-time-left c = let a = c .before .args in difference-fits (a .t .deadline) (a .since) (omega arith)
 
-whole-requires : tie.Need-whole-requires
-whole-requires c κs = search needs
-
 cast-pattern-left : tie.Need-cast-pattern-left
 cast-pattern-left c = search needs
 
@@ -29,17 +26,17 @@ cast-pattern-left-2 : tie.Need-cast-pattern-left-2
 cast-pattern-left-2 c = search needs
 
 sub-pattern-left : tie.Need-sub-pattern-left
-sub-pattern-left c = let a = c .before .before .args in difference-fits (c .whole .result) (a .progress) (omega arith)
+sub-pattern-left c = let a = c .before .args in difference-fits (a .length) (a .progress) (omega arith)
 
 sub-result : tie.Need-sub-result
-sub-result c = let a = c .before .before .args in differences-fit (a .t .deadline) (a .since) (c .whole .result) (a .progress) (omega arith) (omega arith)
+sub-result c = let a = c .before .args in differences-fit (a .t .deadline) (a .since) (a .length) (a .progress) (omega arith) (omega arith)
 
 returns : tie.Need-returns
 unfolding laxity taskOf taskIn entryOf
 returns c =
-    let a = c .before .before .args in
-    differences (a .t .deadline) (a .since) (c .whole .result) (a .progress) (omega arith) (omega arith)
-    ∙ ap (λ n. (pos (a .t .deadline) -ℤ pos (a .since)) -ℤ (pos n -ℤ pos (a .progress))) (c .whole .ensures)
+    let a = c .before .args in
+    differences (a .t .deadline) (a .since) (a .length) (a .progress) (omega arith) (omega arith)
+    ∙ ap (λ n. (pos (a .t .deadline) -ℤ pos (a .since)) -ℤ (pos n -ℤ pos (a .progress))) (c .before .pre .1)
 
 pub laxity-at-spec : {M : Type 1} → statement M
 laxity-at-spec =
@@ -48,7 +45,6 @@ laxity-at-spec =
     cast-time-left
     cast-time-left-2
     sub-time-left
-    whole-requires
     cast-pattern-left
     cast-pattern-left-2
     sub-pattern-left
