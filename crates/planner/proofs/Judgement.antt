@@ -13,11 +13,10 @@ use Rattle.rules.specs.Tasks.{Task, noTask, Standing, ready, waiting, done, sta
 use Rattle.rules.specs.Positions.{Position, idle, each, every, allowed, moved, passed, ended, starts, restarted, next, inTime, livePosition, endsWell, endsLive, legal}
 use Rattle.rules.proofs.Lists.{clash}
 use Rattle.rules.proofs.Run.Reach.{ended-at, next-length, next-at}
-use Rattle.tasks.proofs.Slotwise.{legal-well}
+use Rattle.tasks.proofs.Slotwise.{and-false, legal-well}
 use Rattle.planner.specs.Marks.{mark}
 use Rattle.tasks.specs.Slots.{onward, wellAfter}
 use Rattle.planner.specs.Ahead.{stayed, gone, claim, claimed, leadsBy}
-use Rattle.planner.proofs.Marks.{and-false}
 
 -- ── tests ───────────────────────────────────────────────────────────────────
 

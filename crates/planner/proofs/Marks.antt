@@ -15,6 +15,7 @@ use Rattle.rules.specs.Choices.{run, liveFrom}
 use Rattle.rules.proofs.Lists.{clash}
 use Rattle.rules.proofs.Laws.{T-true, T-and, T-or, le-or-lt, passed-rise, passed-fits, isDone-span, every-at}
 use Rattle.rules.proofs.Run.Reach.{ended-length, ended-at, next-length, next-at}
+use Rattle.tasks.proofs.Slotwise.{and-false}
 use Rattle.planner.specs.Marks.{mark, lowered, raised, unstarted, chosen, marks, spelled}
 
 -- ── a mark is a byte ────────────────────────────────────────────────────────
@@ -129,10 +130,6 @@ module _ (s : List Task) (x : Position) (long : length (x .progress) ≡ length 
       rw (unstarted-restarted (suc (x .slot)) 0 s (ended s (x .progress) c) k (was-done fits c l)) (lowered-mark (x .progress) (ended s (x .progress) c) (omega arith) (rises c))
 
 -- ── the choice of a slot ────────────────────────────────────────────────────
-
-pub and-false : (b : Bool) → b && false ≡ false
-and-false true = refl
-and-false false = refl
 
 -- of the ready tasks only the chosen one rises
 rose-ready : (k : Standing) (b : Bool) (p : ℕ) → eqb (cond (eqb p (moved k b p)) 0 1) 1 && isReady k ≡ b && isReady k

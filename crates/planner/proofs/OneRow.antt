@@ -15,13 +15,13 @@ use Rattle.rules.specs.Lists.{tabulate}
 use Rattle.rules.specs.Tasks.{Task, span, placeOf, standing}
 use Rattle.rules.specs.Tasks as model
 use Rattle.rules.specs.Positions.{inTime}
-use Rattle.rules.proofs.Laws.{T-true, le-or-lt, inTime-lax, inTime-use, inTime-done}
+use Rattle.rules.proofs.Laws.{T-true, le-or-lt, inTime-lax, inTime-use}
 use Rattle.rules.proofs.Lists.{tabulate-length}
 use Rattle.tasks.specs.declared.Task as code
 use Rattle.tasks.specs.declared.TaskSet.{TaskSet}
 use Rattle.tasks.specs.Views.{noEntry, entryOf, taskOf, setOf}
 use Rattle.tasks.proofs.Views.{units-length}
-use Rattle.tasks.proofs.OneTask.{place-more, place-here, place-end, stands-done, stands-ready, stands-waiting}
+use Rattle.tasks.proofs.OneTask.{in-time-done, place-more, place-here, place-end, stands-done, stands-ready, stands-waiting}
 use Rattle.tasks.proofs.Positions.{set-fits}
 use Rattle.planner.specs.Rows.{rowOf, AreRows, taskAt, Row}
 
@@ -59,7 +59,7 @@ lax-is e τ p h = go (le-or-lt (e + span τ) (τ .deadline + p))
 
 module _ (rows : List ℕ) (at since progress : ℕ) (r : Row rows at) where
   pub lasts-done : getD rows (at + 2) 0 ≤ progress → true ≡ inTime since (taskAt rows at) progress
-  lasts-done h = let e = r .whole in sym (T-true _ (inTime-done since (taskAt rows at) progress (omega arith)))
+  lasts-done h = in-time-done (taskAt rows at) (getD rows (at + 2) 0) progress (r .whole) since h
 
   pub lasts-left : progress < getD rows (at + 2) 0 → leb (since + getD rows (at + 2) 0) (getD rows (at + 1) 0 + progress) ≡ inTime since (taskAt rows at) progress
   unfolding taskAt

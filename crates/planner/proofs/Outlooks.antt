@@ -13,12 +13,12 @@ use lib.ListN.{length, getD, take, drop, set, length-set, length-drop, drop-of-l
 use lib.Seq.{drop-cons, length-take-le, getD-take, getD-set-same, getD-set-other}
 use Rattle.rules.specs.Tasks.{Task, noTask, span, done, standing, isReady, isDone}
 use Rattle.rules.specs.Positions.{idle, moved, passed, ended, starts, inTime, endsWell}
-use Rattle.rules.proofs.Lists.{clash-bool}
-use Rattle.rules.proofs.Laws.{T-true, true-T, le-or-lt, done-at, inTime-use, inTime-lax, inTime-done, isDone-span, span-isDone}
+use Rattle.rules.proofs.Laws.{T-true, true-T, le-or-lt, inTime-use, inTime-lax, inTime-done, isDone-span, span-isDone}
 use Rattle.rules.proofs.Run.Reach.{since-suc, ended-length, ended-at}
 use Rattle.tasks.specs.declared.Standing as code
 use Rattle.tasks.specs.declared.Standing.the-variants.{Ready, Waiting, Done}
 use Rattle.tasks.specs.Views.{standingOf}
+use Rattle.tasks.proofs.OneTask.{undone-below}
 use Rattle.tasks.proofs.Slotwise.{starts-full}
 use Rattle.planner.specs.Rows.{taskAt, rowTasks, Row, Laid}
 use Rattle.planner.specs.Marks.{mark}
@@ -44,12 +44,7 @@ module _ (rows : List ℕ) (at : ℕ) (R : Row rows at) where
 
   -- progress that is not done is small
   below : (p : ℕ) → isDone (standing (taskAt rows at) p) ≡ false → p < 1785
-  unfolding isDone
-  below p e = go (le-or-lt (span (taskAt rows at)) p)
-    where
-      go : (span (taskAt rows at) ≤ p) ⊎ (p < span (taskAt rows at)) → p < 1785
-      go (inl k) = clash-bool (sym (rw (done-at (taskAt rows at) p k) at e))
-      go (inr k) = let s = R .small in omega arith
+  below p e = let s = R .small in let u = undone-below (taskAt rows at) p e in omega arith
 
   -- as a call of `standing_in` told
   pub below-ready : (p : ℕ) (k : code.Standing) → standingOf k ≡ standing (taskAt rows at) p → k ≡ Ready → p < 1785

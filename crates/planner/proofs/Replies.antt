@@ -5,7 +5,7 @@ use mathlib.Core.List.{List, _++_}
 use Prim.Native.Nat.{ℕ, zero, suc, _+_, _≤_, _<_, _/_}
 use native.Mathlib.Numerals.{add-one}
 use native.Mathlib.Omega.{arith}
-use borrow.Author.Tests.{lt-ltb, le-ltb, le-leb, not-true, not-false}
+use borrow.Author.Tests.{lt-ltb, le-ltb, not-true, not-false}
 use lib.ListN.{length, getD, take, drop, replicate}
 use Rattle.rules.specs.Tasks.{noTask}
 use Rattle.rules.specs.Hyper.{hyper}
@@ -17,6 +17,7 @@ use Rattle.rules.proofs.Laws.{true-T}
 use Rattle.rules.proofs.Set.Widths.{hyper-small}
 use Rattle.tasks.specs.declared.TaskSet.{TaskSet}
 use Rattle.tasks.specs.Views.{recordOf, setOf, progressOf, positionOf, bounded}
+use Rattle.tasks.proofs.Multiple.{hyper-whole}
 use Rattle.tasks.proofs.Views.{arrays}
 use Rattle.tasks.proofs.Positions.{set-fits}
 use Rattle.planner.specs.declared.Word.{Word}
@@ -52,8 +53,7 @@ module _ (s : TaskSet) (t a : List ℕ) (x : ℕ) (refusal : x ≡ recordRefusal
     admitted = sym refusal ∙ ok
 
     pub period-is : h ≡ hyper (setOf s)
-    unfolding bounded setOf
-    period-is = period ∙ rw (le-leb (hyper (setOf s)) 4096 (hyper-small (recordOf s) admitted))
+    period-is = period ∙ hyper-whole s admitted
 
     pub table-short : length t < h → PlanReply (recordOf s) t a (answerOf (Refused 7)) t a
     unfolding answerOf planRefusal orElse setOf

@@ -13,6 +13,7 @@ use lib.Seq.{length-take-le}
 use Rattle.rules.specs.Tasks.{Task, noTask}
 use Rattle.rules.specs.Positions.{idle, ended, next, legal}
 use Rattle.rules.proofs.Lists.{clash-bool}
+use Rattle.tasks.proofs.Slotwise.{and-false}
 use Rattle.planner.specs.declared.search.Search.{Search}
 use Rattle.planner.specs.Rows.{rowTasks}
 use Rattle.planner.specs.Marks.{mark}
@@ -20,7 +21,7 @@ use Rattle.planner.specs.Area.{among}
 use Rattle.planner.specs.Ahead.{Ahead, leadsBy, leadsTask, gone, First}
 use Rattle.planner.specs.Machine.{Machine, following, here, leadsOn, pushed, passedOver, Tries, adds, passes, spent}
 use Rattle.planner.specs.Views.{machineOf, Trying}
-use Rattle.planner.proofs.Marks.{mark-byte, and-false}
+use Rattle.planner.proofs.Marks.{mark-byte}
 use Rattle.planner.proofs.Steps.{behind-idle, behind-last, behind-task}
 use Rattle.planner.proofs.Places.{rows-length}
 use Rattle.planner.proofs.Firsts.{leads-some, first-found, first-missed}

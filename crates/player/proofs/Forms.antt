@@ -19,10 +19,10 @@ use Rattle.rules.specs.Jobs.{finished}
 use Rattle.rules.specs.States.{isReadyStand, isBlankJob, isBlankTask, unitsTidy, restZero, plannedForm, jobFormIn, jobForm, jobsForm, lastForm, inUse, inUseForm, form}
 use Rattle.rules.proofs.Lists.{tabulate-at, tabulate-length}
 use Rattle.rules.proofs.Set.Tidy.{counts}
-use Rattle.rules.proofs.Set.Widths.{hyper-small}
 use Rattle.tasks.specs.declared.Task as tasks
 use Rattle.tasks.specs.declared.TaskSet.{TaskSet}
 use Rattle.tasks.specs.Views.{noEntry, entryOf, recordOf, taskOf, setOf, progressOf, bounded}
+use Rattle.tasks.proofs.Multiple.{hyper-whole}
 use Rattle.tasks.proofs.Views.{used-at, set-used}
 use Rattle.tasks.proofs.Positions.{set-fits, task-at}
 use Rattle.player.specs.declared.Cause.{Cause}
@@ -268,10 +268,6 @@ pub ruleset last-laws = (last-none, last-beyond, last-unready, last-ready)
 
 -- ── the whole ───────────────────────────────────────────────────────────────
 
-bounded-below : (h : ℕ) → h ≤ 4096 → bounded h ≡ h
-unfolding bounded
-bounded-below h k = rw (le-leb h 4096 k)
-
 module _ (st : State) (refusal : ℕ) (e : refusal ≡ recordRefusal (recordOf (st .set))) where
   pub form-refused : (refusal ≡ 0 → ⊥) → false ≡ form (stateOf st)
   unfolding form stateOf
@@ -285,7 +281,7 @@ module _ (st : State) (refusal : ℕ) (e : refusal ≡ recordRefusal (recordOf (
     unfolding form inUseForm inUse stateOf setOf recordOf
     parts =
         let ok = sym e ∙ fine in
-        let b = bounded-below (hyper (setOf (st .set))) (hyper-small (recordOf (st .set)) ok) in
+        let b = hyper-whole (st .set) ok in
         let few = counts (recordOf (st .set)) ok .high in
         rw (eq-eqb (recordRefusal (recordOf (st .set))) 0 ok, k, b, ← plans-used (st .set) (st .planned) few long)
 

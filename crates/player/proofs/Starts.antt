@@ -7,7 +7,7 @@ use native.Mathlib.Numerals.{add-one}
 use native.Mathlib.Omega.{arith}
 use lib.ListN.{length, getD, take, drop, set, replicate, length-map, length-replicate, getD-replicate, drop-of-length-le}
 use lib.Seq.{drop-cons, length-take-le, getD-take, ext-getD}
-use borrow.Author.Tests.{le-leb, eq-eqb, ne-eqb, not-true, not-false}
+use borrow.Author.Tests.{eq-eqb, ne-eqb, not-true, not-false}
 use Rattle.rules.specs.Lists.{tabulate, padded}
 use Rattle.rules.specs.Positions.{idle, each, passed, ended, restarted, next, livePosition, legal, start}
 use Rattle.rules.specs.Hyper.{hyper}
@@ -19,10 +19,10 @@ use Rattle.rules.specs.States.{blankJob, blankTask, blankSet, blankState, tidyT
 use lib.Dec.{T}
 use Rattle.rules.proofs.Laws.{T-true, true-T, each-length}
 use Rattle.rules.proofs.Set.Admitted.{tasks-length}
-use Rattle.rules.proofs.Set.Widths.{hyper-small}
 use Rattle.tasks.specs.declared.Task.{Task}
 use Rattle.tasks.specs.declared.TaskSet.{TaskSet}
 use Rattle.tasks.specs.Views.{noEntry, entryOf, recordOf, taskOf, setOf, progressOf, positionOf, arrayOf, bounded}
+use Rattle.tasks.proofs.Multiple.{hyper-whole}
 use Rattle.tasks.proofs.Views.{used-at}
 use Rattle.tasks.proofs.OneTask.{pattern-short, entry-read}
 use Rattle.tasks.proofs.Positions.{set-fits, progress-length, progress-array}
@@ -210,8 +210,7 @@ module _ (s : TaskSet) (table : List ℕ) (n : ℕ) (en : n ≡ recordRefusal (r
     fine = sym en ∙ z
 
     pub period : hyper (setOf s) ≡ h
-    unfolding bounded setOf
-    period = sym (eh ∙ rw (le-leb (hyper (setIn (recordOf s))) 4096 (hyper-small (recordOf s) fine)) refl)
+    period = sym (eh ∙ hyper-whole s fine)
 
     unlisted : isSchedule (setOf s) table ≡ false → (r : Started) → r .refusal ≡ 12 → stateOf (r .state) ≡ blankState → startedOf r ≡ startAnswer (startReply (recordOf s) table true)
     unfolding startReply startRefusal setOf orElse

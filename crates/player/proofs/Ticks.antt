@@ -10,7 +10,7 @@ use native.Mathlib.Omega.{arith}
 use lib.Dec.{T, ltb, eqb, ltb→lt, eqb→eq}
 use lib.ListN.{length, getD, set, replicate}
 use lib.Seq.{getD-take, length-take-le}
-use borrow.Author.Tests.{lt-ltb, le-ltb, eq-eqb, ne-eqb, le-leb, not-true, not-false}
+use borrow.Author.Tests.{lt-ltb, le-ltb, eq-eqb, ne-eqb, not-true, not-false}
 use Rattle.rules.specs.Lists.{tabulate, padded}
 use Rattle.rules.specs.Tasks.{noTask}
 use Rattle.rules.specs.Hyper.{hyper}
@@ -23,10 +23,10 @@ use Rattle.rules.specs.States.{blankJob, plannedForm, jobForm, jobsForm, inUse,
 use Rattle.rules.proofs.Lists.{clash-bool, tabulate-at, tabulate-length}
 use Rattle.rules.proofs.Laws.{true-T, T-and, le-or-lt}
 use Rattle.rules.proofs.Set.Tidy.{counts}
-use Rattle.rules.proofs.Set.Widths.{hyper-small}
 use Rattle.rules.proofs.Play.Closed.{formed-jobs}
 use Rattle.rules.proofs.Play.Lanes.{turn-runs}
 use Rattle.tasks.specs.Views.{noEntry, recordOf, taskOf, setOf, positionOf, arrayOf, bounded}
+use Rattle.tasks.proofs.Multiple.{hyper-whole}
 use Rattle.tasks.proofs.Views.{set-few, set-at}
 use Rattle.player.specs.declared.Job.{Job}
 use Rattle.player.specs.declared.State.{State}
@@ -84,8 +84,7 @@ module _ (st : State) (ok : T (form (stateOf st))) where
   slot-below = ltb→lt (st .slot) (hyper (setOf (st .set))) (inner .0)
 
   pub period-is : (h : ℕ) → h ≡ bounded (hyper (setOf (st .set))) → h ≡ hyper (setOf (st .set))
-  unfolding bounded setOf
-  period-is h e = e ∙ rw (le-leb (hyper (setIn (recordOf (st .set)))) 4096 (hyper-small (recordOf (st .set)) (parts .0))) refl
+  period-is h e = e ∙ hyper-whole (st .set) (parts .0)
 
   -- each task's job has the form
   job-formed : (i : ℕ) → i < st .set .count → T (jobForm (taskOf (getD (st .set .tasks) i noEntry)) (eqb (st .last) i) (jobOf (getD (st .jobs) i noJob)))

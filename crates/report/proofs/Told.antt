@@ -4,15 +4,14 @@ use mathlib.Core.Logic.{_⊎_, inl, inr}
 use mathlib.Core.List.{List, [], _∷_, _++_}
 use Prim.Native.Nat.{ℕ, _≤_, _<_}
 use native.Mathlib.Omega.{arith}
-use borrow.Author.Tests.{le-leb}
 use lib.ListN.{length, take, length-append}
 use lib.Seq.{length-take-le, getD-take}
 use Rattle.rules.specs.Hyper.{hyper}
 use Rattle.rules.specs.Records.{setIn}
 use Rattle.rules.specs.Planner.{Word, schedule, infeasible, outOfRoom, Answer, refused, answered, PlanReply}
 use Rattle.rules.proofs.Lists.{clash}
-use Rattle.rules.proofs.Set.Widths.{hyper-small}
 use Rattle.tasks.specs.Views.{recordOf, setOf, bounded}
+use Rattle.tasks.proofs.Multiple.{hyper-whole}
 use Rattle.list.specs.Reading.{readList, replyOf}
 use Rattle.list.specs.declared.Reading.{Reading}
 use Rattle.list.specs.Replies.{Admissible}
@@ -112,8 +111,8 @@ module _ (list : List ℕ) (x : Reading) (e : replyOf x ≡ readList list) (tabl
 
     module _ (k : ℕ) (hk : k ≡ bounded (hyper (setOf (x .set)))) where
       is-hyper : k ≡ hyper (setIn (recordOf (x .set)))
-      unfolding setOf bounded
-      is-hyper = hk ∙ rw (le-leb (hyper (setIn (recordOf (x .set)))) 4096 (hyper-small (recordOf (x .set)) (admissible .fine))) refl
+      unfolding setOf
+      is-hyper = hk ∙ hyper-whole (x .set) (admissible .fine)
 
       module _ {a : Answer} {t u : List ℕ} (R : PlanReply (recordOf (x .set)) table area a t u) where
         pub planned-tellable : Tellable k a t out

@@ -10,11 +10,12 @@ use lib.ListN.{length, getD, drop}
 use lib.Seq.{drop-cons, drop-length}
 use Rattle.rules.specs.Tasks.{noTask}
 use Rattle.rules.specs.Hyper.{gcdIn, gcd, lcm, hyper}
-use Rattle.rules.specs.Records.{taskIn}
+use Rattle.rules.specs.Records.{taskIn, recordRefusal}
 use Rattle.rules.proofs.Laws.{le-or-lt}
+use Rattle.rules.proofs.Set.Widths.{hyper-small}
 use Rattle.rules.proofs.Set.Multiple.{gcd-left, lcm-right, lcm-pos}
 use Rattle.tasks.specs.declared.TaskSet.{TaskSet}
-use Rattle.tasks.specs.Views.{noEntry, entryOf, taskOf, setOf, bounded}
+use Rattle.tasks.specs.Views.{noEntry, entryOf, recordOf, taskOf, setOf, bounded}
 use Rattle.tasks.proofs.Views.{set-few, set-all, set-at}
 
 -- ── the divisor ─────────────────────────────────────────────────────────────
@@ -77,6 +78,11 @@ multiple-many a b g e h = sym (bounded-many (a / gcd a b * b) (rw (sym e) h))
 pub multiple-few : (a b g : ℕ) → g ≡ gcd a b → a / g * b ≤ 4096 → a / g * b ≡ bounded (lcm a b)
 unfolding lcm
 multiple-few a b g e h = rw (← e) (sym (bounded-few (a / g * b) h))
+
+-- the bound changes nothing in an admissible set
+pub hyper-whole : (s : TaskSet) → recordRefusal (recordOf s) ≡ 0 → bounded (hyper (setOf s)) ≡ hyper (setOf s)
+unfolding setOf
+hyper-whole s ok = bounded-few (hyper (setOf s)) (hyper-small (recordOf s) ok)
 
 -- ── the set ─────────────────────────────────────────────────────────────────
 

@@ -141,7 +141,7 @@ span-small t h =
     let b = pattern-short t in
     omega arith
 
-undone-below : (τ : model.Task) (p : ℕ) → isDone (standing τ p) ≡ false → p < span τ
+pub undone-below : (τ : model.Task) (p : ℕ) → isDone (standing τ p) ≡ false → p < span τ
 unfolding isDone
 undone-below τ p e = go (le-or-lt (span τ) p)
   where

@@ -22,7 +22,7 @@ use Rattle.tasks.proofs.Positions.{task-at, Written, each-long, number-
 
 -- ── tests ───────────────────────────────────────────────────────────────────
 
-and-false : (b : Bool) → b && false ≡ false
+pub and-false : (b : Bool) → b && false ≡ false
 and-false true = refl
 and-false false = refl
 
