@@ -1,8 +1,9 @@
 /* bench ladder FILE [ROOM]    a row: planning the list by the library and by search.c
  * bench slots | tasks | dead  rows: how planning grows
  * bench tick FILE             a row: ticks of the library and of the twin
- * bench play FILE             prints nothing: one play by each, and as many encodings of the
- *                             twin's state, for instructions to be counted
+ * bench play FILE             prints nothing: one play by each, for instructions to be counted
+ * bench encode FILE           prints nothing: starts with a buffer for the state, starts with
+ *                             one that is a byte too short, and encodings of the twin's state
  * bench start FILE            a row: starts of the library and of the twin
  * bench read                  rows: reading by the library and by the twin
  * bench stack FILE            rows: stack of the library's functions, on a feasible list
@@ -360,12 +361,34 @@ static void tick_row(const char *path)
 static void play_once(const char *path)
 {
     struct playing *playing = playing_of(path);
-    uint8_t bytes[KILUVSAAT_STATE_SIZE];
 
     play_by_library(playing);
     play_by_twin(playing);
-    for (unsigned i = 0; i < TICKS; i++)
+}
+
+/* Functions of their own, so that what each costs can be counted. */
+__attribute__((noinline)) static uint8_t start_encoded(struct playing *p)
+{
+    return kiluvsaat_start(p->string, sizeof p->string, p->table, p->slots, p->state,
+                           sizeof p->state);
+}
+
+__attribute__((noinline)) static uint8_t start_short(struct playing *p)
+{
+    return kiluvsaat_start(p->string, sizeof p->string, p->table, p->slots, p->state,
+                           sizeof p->state - 1);
+}
+
+static void encode_often(const char *path)
+{
+    struct playing *playing = playing_of(path);
+    uint8_t bytes[KILUVSAAT_STATE_SIZE];
+
+    for (unsigned i = 0; i < TICKS; i++) {
+        if (start_encoded(playing) != 0 || start_short(playing) != KILUVSAAT_BUFFER_TOO_SHORT)
+            give_up("a start replies otherwise");
         bytes_of_state(&playing->twin_state, bytes);
+    }
 }
 
 static void start_row(const char *path)
@@ -502,6 +525,8 @@ int main(int argc, char **argv)
         tick_row(argv[2]);
     else if (strcmp(what, "play") == 0 && argc > 2)
         play_once(argv[2]);
+    else if (strcmp(what, "encode") == 0 && argc > 2)
+        encode_often(argv[2]);
     else if (strcmp(what, "start") == 0 && argc > 2)
         start_row(argv[2]);
     else if (strcmp(what, "read") == 0)

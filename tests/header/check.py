@@ -7,7 +7,7 @@ import sys
 ROOT = os.path.join(os.path.dirname(os.path.abspath(__file__)), '..', '..')
 HEADER = 'include/kiluvsaat.h'
 SOURCES = 'crates/kiluvsaat/src/*.rt'
-SIZES = 'crates/kiluvsaat/specs/Bytes.antt'
+SIZES = 'crates/player/specs/Bytes.antt'
 NUMBERS = {'bool': 'bool', 'usize': 'size_t', 'isize': 'ptrdiff_t'}
 for bits in (8, 16, 32, 64):
     NUMBERS['u%d' % bits] = 'uint%d_t' % bits

@@ -1,9 +1,3 @@
-pub mod Places
-pub mod Sizes
-pub mod Strings
-pub mod Inverse
-pub mod Carried
-pub mod Calls
 pub mod Listed
 pub mod Planned
 pub mod Promises

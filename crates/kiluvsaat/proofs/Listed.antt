@@ -4,7 +4,7 @@ use mathlib.Core.Bool.{Bool, true, false, cond}
 use mathlib.Core.List.{List, [], _∷_, _++_}
 use Prim.Native.Nat.{ℕ, zero, suc, _+_, _*_, _≤_, _<_}
 use native.Mathlib.Omega.{arith}
-use lib.Dec.{ltb}
+use lib.Dec.{leb, ltb}
 use lib.ListN.{length, drop}
 use borrow.Author.Tests.{ne-eqb, le-leb, lt-leb}
 use Rattle.rules.specs.Lists.{isZero}
@@ -15,7 +15,7 @@ use Rattle.list.specs.declared.Reading.{Reading}
 use Rattle.list.specs.Text.{endsLine, onto, lines}
 use Rattle.list.specs.Reading.{ReadReply, lineTask, refusedWhole, refusedLine, accepted, finish, readFrom, readList, replyOf}
 use Rattle.list.proofs.Meaning.Reader.{read-step, list-step}
-use Rattle.kiluvsaat.specs.Bytes.{setSize, setBytes}
+use Rattle.player.specs.Bytes.{setSize, setBytes}
 use Rattle.kiluvsaat.specs.Plans.{readNumber, readBuffer, placeNumber}
 
 -- ── a list read ─────────────────────────────────────────────────────────────
@@ -49,9 +49,9 @@ module _ (bs o : List ℕ) where
       unfolding readNumber orElse setSize
       read-short h = refuses 7 (rw (sym refusal-is ∙ ok, lt-leb 97 (length o) h) refl)
 
-      pub read-done : (out : List ℕ) → 97 ≤ length o → out ≡ setBytes (recordOf (r .set)) ++ drop 97 o → Listed 0 out
+      pub read-done : (out : List ℕ) → 97 ≤ length o → out ≡ cond (leb 97 (length o)) (setBytes (recordOf (r .set)) ++ drop 97 o) o → Listed 0 out
       unfolding readNumber readBuffer orElse setSize replyOf
-      read-done out h e = rw (sym refusal-is ∙ ok, le-leb 97 (length o) h) (refl, e ∙ ap (λ (a : ReadReply). setBytes (a .set) ++ drop 97 o) er)
+      read-done out h e = rw (sym refusal-is ∙ ok, le-leb 97 (length o) h) (refl, (rw (le-leb 97 (length o) h) at e) ∙ ap (λ (a : ReadReply). setBytes (a .set) ++ drop 97 o) er)
 
 -- ── where a refused line stands ─────────────────────────────────────────────
 

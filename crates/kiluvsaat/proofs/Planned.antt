@@ -20,10 +20,10 @@ use Rattle.planner.specs.declared.Answer.{Answer}
 use Rattle.planner.specs.declared.Answer.the-variants.{Refused, Answered}
 use Rattle.planner.specs.Views.{wordOf, answerOf}
 use Rattle.planner.proofs.Replies.{period-is}
-use Rattle.kiluvsaat.specs.Bytes.{setSize, setBytes, setAt}
+use Rattle.player.specs.Bytes.{setSize, setBytes, setAt}
 use Rattle.kiluvsaat.specs.Plans.{readNumber, readBuffer, slotsNumber, wordNumber, planNumber, planCount, PlanCall, noSet, replied}
-use Rattle.kiluvsaat.proofs.Sizes.{set-size}
-use Rattle.kiluvsaat.proofs.Inverse.{set-back}
+use Rattle.player.proofs.Sizes.{set-size}
+use Rattle.player.proofs.Inverse.{set-back}
 
 -- ── the slots of a set ──────────────────────────────────────────────────────
 

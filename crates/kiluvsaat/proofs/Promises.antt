@@ -10,13 +10,13 @@ use Rattle.rules.specs.Records.{SetRecord, Arrays}
 use Rattle.rules.specs.States.{StateRecord, StateArrays, form}
 use Rattle.player.specs.declared.State.{State}
 use Rattle.player.specs.Views.{stateOf}
-use Rattle.kiluvsaat.specs.Bytes.{setBytes, stateBytes, setAt, stateAt, readable}
-use Rattle.kiluvsaat.specs.Widths.{AllBytes, SetFits, StateFits}
+use Rattle.player.specs.Bytes.{setBytes, stateBytes, setAt, stateAt, readable}
+use Rattle.player.specs.Widths.{AllBytes, SetFits, StateFits}
 use Rattle.kiluvsaat.specs.Plans.{readNumber, readBuffer, slotsNumber}
-use Rattle.kiluvsaat.proofs.Sizes as sizes
-use Rattle.kiluvsaat.proofs.Strings as strings
-use Rattle.kiluvsaat.proofs.Inverse as inverse
-use Rattle.kiluvsaat.proofs.Carried as carried
+use Rattle.player.proofs.Sizes as sizes
+use Rattle.player.proofs.Codes as strings
+use Rattle.player.proofs.Inverse as inverse
+use Rattle.player.proofs.Carried as carried
 use Rattle.kiluvsaat.proofs.Planned as planned
 
 -- ── there and back ──────────────────────────────────────────────────────────

@@ -9,7 +9,7 @@ use Rattle.rules.specs.Hyper.{hyper}
 use Rattle.rules.specs.Records.{orElse, setIn, recordRefusal}
 use Rattle.rules.specs.Planner.{Word, schedule, infeasible, outOfRoom, Answer, refused, answered, PlanReply}
 use Rattle.list.specs.Reading.{ReadReply, readList}
-use Rattle.kiluvsaat.specs.Bytes.{setSize, setBytes, setAt}
+use Rattle.player.specs.Bytes.{setSize, setBytes, setAt}
 
 -- ── a list ──────────────────────────────────────────────────────────────────
 

@@ -1,10 +1,10 @@
 // What is called before a run: a list read, a set's slots, and a plan. A refusal changes no lent byte.
-use crate::codec::get_set;
-use crate::codec::put_set;
 use list::read;
 use planner::Answer;
 use planner::Word;
 use planner::plan;
+use player::codec::set_in;
+use player::codec::write_set;
 use tasks::set::judge;
 ghost use mathlib.Core.Path.{_≡_};
 ghost use Rattle.list.specs.Reading.{readList};
@@ -26,7 +26,7 @@ pub extern "C" fn kiluvsaat_read(list: &[u8], set: &mut [u8]) -> u8
         return 8;
     }
     let found = reply.set;
-    put_set(found, set);
+    write_set(found, set);
     0
 }
 
@@ -50,7 +50,7 @@ pub extern "C" fn kiluvsaat_slots(set: &[u8]) -> u16
     if set.len() != 97 {
         return 0;
     }
-    let handed = get_set(set);
+    let handed = set_in(set);
     let judged = judge(handed);
     if judged.refusal != 0 {
         return 0;
@@ -83,7 +83,7 @@ pub extern "C" fn kiluvsaat_plan(
     if set.len() != 97 {
         return 5;
     }
-    let handed = get_set(set);
+    let handed = set_in(set);
     let answer = plan(handed, table, area);
     match answer {
         Answer::Refused(n) => n,

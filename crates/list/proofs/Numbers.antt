@@ -9,11 +9,11 @@ use lib.Dec.{leb}
 use lib.ListN.{length, set, length-append, length-map, replicate}
 use lib.Seq.{set-at, append-snoc}
 use Rattle.rules.specs.Lists.{allOf, padded}
-use Rattle.rules.proofs.Lists.{clash-bool}
+use Rattle.rules.proofs.Lists.{clash-bool, and-parts}
 use Rattle.list.specs.declared.fields.Fields.{Fields}
 use Rattle.list.specs.Reading.{isField, number}
 use Rattle.list.specs.Inner.{noFields, fieldsOf, oneMore}
-use Rattle.list.proofs.Tests.{and-left, and-right, all-append}
+use Rattle.list.proofs.Tests.{all-append}
 
 -- good fields of some words
 abbrev filled : List (List ℕ) → Fields
@@ -34,8 +34,8 @@ held f ws e h = go (allOf isField ws && leb (length ws) 9) refl
     go true g =
         let k : f ≡ filled ws = e ∙ rw g in
         record {
-          all = and-left (allOf isField ws) (leb (length ws) 9) g;
-          few = leb-true (length ws) 9 (and-right (allOf isField ws) (leb (length ws) 9) g);
+          all = and-parts (allOf isField ws) (leb (length ws) 9) g .0;
+          few = leb-true (length ws) 9 (and-parts (allOf isField ws) (leb (length ws) 9) g .1);
           many = ap (λ (f : Fields). f .count) k;
           values = ap (λ (f : Fields). f .values) k;
         }

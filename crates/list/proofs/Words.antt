@@ -12,7 +12,8 @@ use lib.ListN.{length, getD, drop, drop-of-length-le, length-append}
 use lib.Seq.{drop-cons}
 use Rattle.rules.specs.Lists.{allOf, isZero}
 use Rattle.rules.proofs.Laws.{le-or-lt}
-use Rattle.list.proofs.Tests.{and-left, and-right, all-append}
+use Rattle.rules.proofs.Lists.{and-parts}
+use Rattle.list.proofs.Tests.{all-append}
 use Rattle.list.specs.Text.{partsFields, atGap, onto, words}
 use Rattle.list.specs.Reading.{isDigit, isField, numberFrom, number, isComment, skipped}
 use Rattle.list.specs.Inner.{GapSize, Begun}
@@ -59,11 +60,11 @@ module _ (s : List ℕ) (i : ℕ) where
 
 pub digit-low : (b : ℕ) → isDigit b ≡ true → 48 ≤ b
 unfolding isDigit
-digit-low b e = leb-true 48 b (and-left (leb 48 b) (leb b 57) e)
+digit-low b e = leb-true 48 b (and-parts (leb 48 b) (leb b 57) e .0)
 
 pub digit-high : (b : ℕ) → isDigit b ≡ true → b ≤ 57
 unfolding isDigit
-digit-high b e = leb-true b 57 (and-right (leb 48 b) (leb b 57) e)
+digit-high b e = leb-true b 57 (and-parts (leb 48 b) (leb b 57) e .1)
 
 -- a digit parts no fields
 pub digit-inside : (b : ℕ) → isDigit b ≡ true → partsFields b ≡ false
@@ -75,21 +76,21 @@ front-digits : (p bs : List ℕ) → allOf isDigit p ≡ true → front (p ++ bs
 unfolding front allOf
 front-digits [] bs e = refl
 front-digits (b ∷ p) bs e =
-    rw (digit-inside b (and-left (isDigit b) (allOf isDigit p) e), front-digits p bs (and-right (isDigit b) (allOf isDigit p) e))
+    rw (digit-inside b (and-parts (isDigit b) (allOf isDigit p) e .0), front-digits p bs (and-parts (isDigit b) (allOf isDigit p) e .1))
 
 behind-digits : (p bs : List ℕ) → allOf isDigit p ≡ true → behind (p ++ bs) ≡ behind bs
 unfolding behind allOf
 behind-digits [] bs e = refl
 behind-digits (b ∷ p) bs e =
-    rw (digit-inside b (and-left (isDigit b) (allOf isDigit p) e)) (behind-digits p bs (and-right (isDigit b) (allOf isDigit p) e))
+    rw (digit-inside b (and-parts (isDigit b) (allOf isDigit p) e .0)) (behind-digits p bs (and-parts (isDigit b) (allOf isDigit p) e .1))
 
 -- the word that a beginning of a field begins
 pub begun-word : (p bs : List ℕ) (d v : ℕ) → Begun p d v → words (p ++ bs) ≡ (p ++ front bs) ∷ behind bs
 unfolding allOf
 begun-word [] bs d v e = absurd (omega (arith, e .some, e .many))
 begun-word (b ∷ p) bs d v e =
-    let h : isDigit b ≡ true = and-left (isDigit b) (allOf isDigit p) (e .all) in
-    let k : allOf isDigit p ≡ true = and-right (isDigit b) (allOf isDigit p) (e .all) in
+    let h : isDigit b ≡ true = and-parts (isDigit b) (allOf isDigit p) (e .all) .0 in
+    let k : allOf isDigit p ≡ true = and-parts (isDigit b) (allOf isDigit p) (e .all) .1 in
     word-at b (p ++ bs) (digit-inside b h) ∙ rw (front-digits p bs k, behind-digits p bs k)
 
 number-more : (v : ℕ) (p : List ℕ) (b : ℕ) → numberFrom v (p ++ b ∷ []) ≡ numberFrom v p * 10 + (b - 48)

@@ -1,6 +1,6 @@
 -- Choices judged from one look ahead: which are legal, the progress that they lead to, and their marks.
 use mathlib.Core.Path.{_≡_, refl, sym, ap, _∙_}
-use mathlib.Core.Bool.{Bool, true, false, cond, not, _&&_, _||_}
+use mathlib.Core.Bool.{Bool, true, false, cond, not, _&&_, _||_, and-false}
 use mathlib.Core.List.{List, [], _∷_}
 use Prim.Native.Nat.{ℕ, zero, suc, _+_, _-_, _≤_, _<_, _%_, _^_}
 use native.Mathlib.Nat.{pow-suc}
@@ -13,7 +13,7 @@ use Rattle.rules.specs.Tasks.{Task, noTask, Standing, ready, waiting, done, sta
 use Rattle.rules.specs.Positions.{Position, idle, each, every, allowed, moved, passed, ended, starts, restarted, next, inTime, livePosition, endsWell, endsLive, legal}
 use Rattle.rules.proofs.Lists.{clash}
 use Rattle.rules.proofs.Run.Reach.{ended-at, next-length, next-at}
-use Rattle.tasks.proofs.Slotwise.{and-false, legal-well}
+use Rattle.tasks.proofs.Slotwise.{legal-well}
 use Rattle.planner.specs.Marks.{mark}
 use Rattle.tasks.specs.Slots.{onward, wellAfter}
 use Rattle.planner.specs.Ahead.{stayed, gone, claim, claimed, leadsBy}

@@ -1,7 +1,7 @@
 -- Marks: which numbers they are, how the progress before a slot and the choice come back from them, and what is spelled of a live list.
 use mathlib.Core.Path.{_≡_, refl, sym, ap, _∙_}
 use mathlib.Core.Logic.{_⊎_, inl, inr}
-use mathlib.Core.Bool.{Bool, true, false, cond, not, _&&_}
+use mathlib.Core.Bool.{Bool, true, false, cond, not, _&&_, and-false}
 use mathlib.Core.List.{List, [], _∷_, _++_}
 use Prim.Native.Nat.{ℕ, zero, suc, _+_, _-_, _*_, _≤_, _<_, _%_, _/_, _^_}
 use native.Mathlib.Nat.{pow-suc}
@@ -15,7 +15,6 @@ use Rattle.rules.specs.Choices.{run, liveFrom}
 use Rattle.rules.proofs.Lists.{clash}
 use Rattle.rules.proofs.Laws.{T-true, T-and, T-or, le-or-lt, passed-rise, passed-fits, isDone-span, every-at}
 use Rattle.rules.proofs.Run.Reach.{ended-length, ended-at, next-length, next-at}
-use Rattle.tasks.proofs.Slotwise.{and-false}
 use Rattle.planner.specs.Marks.{mark, lowered, raised, unstarted, chosen, marks, spelled}
 
 -- ── a mark is a byte ────────────────────────────────────────────────────────

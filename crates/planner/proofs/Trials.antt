@@ -1,7 +1,7 @@
 -- The choices of a slot, tried one behind the other from one look ahead.
 use mathlib.Core.Path.{_≡_, refl, sym, _∙_}
 use mathlib.Core.Logic.{_⊎_, inl, inr}
-use mathlib.Core.Bool.{Bool, true, false, not, cond, _&&_}
+use mathlib.Core.Bool.{Bool, true, false, not, cond, _&&_, and-false}
 use mathlib.Core.List.{List, _∷_}
 use Prim.Native.Nat.{ℕ, zero, suc, _+_, _-_, _^_, _≤_, _<_}
 use native.Mathlib.Numerals.{add-one}
@@ -12,8 +12,7 @@ use lib.ListN.{length, getD, take, set}
 use lib.Seq.{length-take-le}
 use Rattle.rules.specs.Tasks.{Task, noTask}
 use Rattle.rules.specs.Positions.{idle, ended, next, legal}
-use Rattle.rules.proofs.Lists.{clash-bool}
-use Rattle.tasks.proofs.Slotwise.{and-false}
+use Rattle.rules.proofs.Lists.{clash-bool, and-parts}
 use Rattle.planner.specs.declared.search.Search.{Search}
 use Rattle.planner.specs.Rows.{rowTasks}
 use Rattle.planner.specs.Marks.{mark}
@@ -26,10 +25,6 @@ use Rattle.planner.proofs.Steps.{behind-idle, behind-last, behind-task}
 use Rattle.planner.proofs.Places.{rows-length}
 use Rattle.planner.proofs.Firsts.{leads-some, first-found, first-missed}
 use Rattle.planner.proofs.Judgement.{legal-task, legal-idle, next-task, next-idle, mark-task, gone-ready}
-
-and-left : (a b : Bool) → a && b ≡ true → a ≡ true
-and-left true b e = refl
-and-left false b e = clash-bool e
 
 -- the machine with another choice to try
 abbrev trying : Machine → ℕ → Machine
@@ -101,7 +96,7 @@ module _ (s : List Task) (n : ℕ) (count : length s ≡ n) (few : length s ≤ 
   add-task c on b F h e f =
       let w = first-found F h in
       let i : c < length s = rw count (w .1) in
-      let l = and-left (leadsBy urgent (getD going c 0) c) _ (w .2) in
+      let l = and-parts (leadsBy urgent (getD going c 0) c) _ (w .2) .0 in
       let r = reached c i l in
       let k = mark-is c i l in
       pass-tasks s few m _ (c - m .choice) (m .choice) c (let a = w .0 in omega arith) i (λ d a o. leads-is d (omega arith) ∙ w .3 d a o)
@@ -160,7 +155,7 @@ module _ (n : ℕ) (rows : List ℕ) (at : Search) (table area : List ℕ) (R : 
   mark-fits b h e =
       let w = first-found F h in
       let i : c < length (rowTasks n rows) = rw (rows-length n rows) (w .1) in
-      let l = and-left (leadsBy urgent (getD going c 0) c) _ (w .2) in
+      let l = and-parts (leadsBy urgent (getD going c 0) c) _ (w .2) .0 in
       rw (e, ← mark-is (rowTasks n rows) n count few start long waits urgent stay going (sym eight) A c i l)
       (mark-byte (take n (at .progress)) _ (omega (arith, few, long)))
 

@@ -44,10 +44,14 @@ pub task-blank : entryOf (record { period = 0; deadline = 0; steps = 0; pattern 
 unfolding entryOf blankTask tabulate
 task-blank = refl
 
-pub state-blank : (t : Task) (j : Job) → entryOf t ≡ blankTask → jobOf j ≡ blankJob
-    → stateOf (record { set = record { count = 0; tasks = replicate 8 t }; slot = 0; planned = replicate 8 0; jobs = replicate 8 j; last = 0 }) ≡ blankState
-unfolding stateOf recordOf jobsOf eight blankState blankSet tabulate
-state-blank t j e f = rw (e, f)
+pub set-blank : (t : Task) → entryOf t ≡ blankTask → recordOf (record { count = 0; tasks = replicate 8 t }) ≡ blankSet
+unfolding recordOf blankSet tabulate
+set-blank t e = rw e
+
+pub state-blank : (s : TaskSet) (j : Job) → recordOf s ≡ blankSet → jobOf j ≡ blankJob
+    → stateOf (record { set = s; slot = 0; planned = replicate 8 0; jobs = replicate 8 j; last = 0 }) ≡ blankState
+unfolding stateOf jobsOf eight blankState tabulate
+state-blank s j e f = rw (e, f)
 
 -- ── the set tidied ──────────────────────────────────────────────────────────
 

@@ -19,7 +19,7 @@ ghost use Rattle.rules.specs.Positions.{livePosition, start};
 ghost use Rattle.rules.specs.Choices.{liveFrom};
 ghost use Rattle.rules.specs.Jobs.{finished};
 ghost use Rattle.rules.specs.Player.{fresh};
-ghost use Rattle.rules.specs.States.{blankJob, blankTask, blankState, tidyTask, tidied, asRecord};
+ghost use Rattle.rules.specs.States.{blankJob, blankTask, blankSet, blankState, tidyTask, tidied, asRecord};
 ghost use Rattle.tasks.specs.Views.{entryOf, recordOf, setOf};
 ghost use Rattle.player.specs.Views.{jobOf, jobsOf, stateOf};
 
@@ -46,16 +46,22 @@ fn blank_task() -> Task
     }
 }
 
+// A set of no task: zeros throughout.
+pub(crate) fn blank_set() -> TaskSet
+    ensures { λ r. ⌜ recordOf r ≡ blankSet ⌝ }
+{
+    TaskSet {
+        count: 0,
+        tasks: [blank_task(); 8],
+    }
+}
+
 // A state of no use: zeros throughout.
 fn blank_state() -> State
     ensures { λ r. ⌜ stateOf r ≡ blankState ⌝ }
 {
-    let set = TaskSet {
-        count: 0,
-        tasks: [blank_task(); 8],
-    };
     State {
-        set,
+        set: blank_set(),
         slot: 0,
         planned: [0u16; 8],
         jobs: [blank_job(); 8],

@@ -1,20 +1,21 @@
 // The player: it follows a table slot by slot. A state goes in by value and comes back by value.
 use tasks::TaskSet;
-use tasks::position::advance;
 use tasks::set::judge;
 
 pub mod begin;
-pub mod form;
+pub mod codec;
+pub mod look;
 pub mod round;
+pub mod strings;
 pub mod turn;
 
 use begin::fresh_state;
 use begin::is_live;
 use begin::start_refused;
-use form::form_of;
-use round::slot_after;
+use codec::get_state;
+use codec::put_state;
 use round::tick_refused;
-use round::turns;
+use strings::tick_string;
 ghost use mathlib.Core.Path.{_≡_};
 ghost use mathlib.Core.Bool.{true};
 ghost use Rattle.rules.specs.States.{startReply, tickReply};
@@ -93,39 +94,18 @@ pub fn start(set: TaskSet, table: &[u8]) -> Started
 pub fn tick(state: State, table: &[u8], reports: &[u8]) -> Ticked
     ensures { λ r. ⌜ tickedOf r ≡ tickAnswer (stateOf state) (tickReply (stateOf state) (now (table .entry)) (now (reports .entry)) true) ⌝ }
 {
-    let formed = form_of(state);
-    if !formed.ok {
-        return tick_refused(10, state);
+    let mut before = [0u8; 140];
+    put_state(state, &mut before);
+    let mut next = [0u8; 140];
+    let mut faults = [0u8; 8];
+    let number = tick_string(&before, table, reports, &mut next, &mut faults);
+    if 255 < number {
+        return tick_refused((number / 256) as u8, state);
     }
-    let set = state.set;
-    if reports.len() != set.count as usize {
-        return tick_refused(11, state);
-    }
-    if table.len() != formed.hyper as usize {
-        return tick_refused(12, state);
-    }
-    let slot = state.slot;
-    let at = slot as usize;
-    let plan = state.planned;
-    let onward = advance(set, slot, plan, table[at]);
-    if !onward.legal {
-        return tick_refused(12, state);
-    }
-    let taken = turns(state, table, reports);
-    let planned = onward.progress;
-    let jobs = taken.jobs;
-    let faults = taken.faults;
-    let after = State {
-        set,
-        slot: slot_after(slot, formed.hyper),
-        planned,
-        jobs,
-        last: taken.runner,
-    };
     Ticked {
         refusal: 0,
-        runner: taken.runner,
+        runner: number as u8,
         faults,
-        state: after,
+        state: get_state(&next),
     }
 }

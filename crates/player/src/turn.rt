@@ -246,15 +246,22 @@ pub(crate) fn take_turn(
 {
     let told = report_taken(t, ran, j, report);
     let begun = job_begun(t, slot, told);
+    let before = j.stand;
+    let after = told.stand;
+    let fault = new_fault(before, after);
+    if !owner {
+        return TurnTaken {
+            job: begun,
+            runs: false,
+            fault,
+        };
+    }
     let place = place_at(t, planned);
     let runs = owner_runs(owner, place, begun);
     let late = owner_late(owner, place, begun);
-    let before = j.stand;
-    let after = told.stand;
-    let fault = new_fault(before, after) + late_fault(late);
     TurnTaken {
         job: owned(runs, late, begun),
         runs,
-        fault,
+        fault: fault + late_fault(late),
     }
 }

@@ -1,6 +1,6 @@
 -- Laws about lists and numbers that the other proofs share.
 use mathlib.Core.Path.{_≡_, refl, ap, _∙_}
-use mathlib.Core.Bool.{Bool, true, false}
+use mathlib.Core.Bool.{Bool, true, false, _&&_}
 use mathlib.Core.List.{List, [], _∷_}
 use Prim.Native.Nat.{ℕ, zero, suc, _+_, _<_}
 use native.Mathlib.Omega.{arith}
@@ -17,6 +17,11 @@ clash-01 e = let z : ⊥ = omega arith in absurd z
 
 pub clash-bool : {A : Type 0} → _≡_ {A = Bool} false true → A
 clash-bool e = let z : _≡_ {A = ℕ} 0 1 = cc in clash-01 z
+
+-- a test of two parts that passes, part by part
+pub and-parts : (a b : Bool) → (a && b) ≡ true → (a ≡ true) × (b ≡ true)
+and-parts true b e = (refl, e)
+and-parts false b e = clash-bool e
 
 -- ── tabulate ────────────────────────────────────────────────────────────────
 

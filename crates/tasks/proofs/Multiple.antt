@@ -46,7 +46,7 @@ divisor-pos a b g h e = rw e (pos-of-dvd-of-pos (gcd-left a b) h)
 
 -- ── the multiple with its bound ─────────────────────────────────────────────
 
-bounded-few : (h : ℕ) → h ≤ 4096 → bounded h ≡ h
+pub bounded-few : (h : ℕ) → h ≤ 4096 → bounded h ≡ h
 unfolding bounded
 bounded-few h k = rw (le-leb h 4096 k)
 
@@ -92,7 +92,7 @@ lcm-over a h k l =
     bounded-many (lcm a h) (omega arith)
 
 -- a bound taken on the way does not change the bounded answer
-bounded-lcm : (a h : ℕ) → bounded (lcm a (bounded h)) ≡ bounded (lcm a h)
+pub bounded-lcm : (a h : ℕ) → bounded (lcm a (bounded h)) ≡ bounded (lcm a h)
 bounded-lcm zero h = ap bounded (lcm-zero (bounded h) ∙ sym (lcm-zero h))
 bounded-lcm (suc a) h =
     ⊎-elim (λ few. rw (bounded-few h few))

@@ -1,7 +1,7 @@
 -- What a slot does: to one task, as the code tests it, and to all tasks, with what the loop over them keeps.
 use mathlib.Core.Path.{_≡_, refl, sym, ap, _∙_}
 use mathlib.Core.Logic.{_⊎_, inl, inr}
-use mathlib.Core.Bool.{Bool, true, false, not, cond, _&&_}
+use mathlib.Core.Bool.{Bool, true, false, not, cond, _&&_, and-false, and-true, and-assoc}
 use mathlib.Core.List.{List, [], _∷_}
 use Prim.Native.Nat.{ℕ, suc, _+_, _%_, _≤_, _<_}
 use native.Mathlib.Nat.{mod-zero, mod-lt, mod-self, mod-eq-of-lt, suc-mod}
@@ -22,23 +22,11 @@ use Rattle.tasks.proofs.Positions.{task-at, Written, each-long, number-
 
 -- ── tests ───────────────────────────────────────────────────────────────────
 
-pub and-false : (b : Bool) → b && false ≡ false
-and-false true = refl
-and-false false = refl
-
-and-true : (b : Bool) → b && true ≡ b
-and-true true = refl
-and-true false = refl
-
 and-same : (b : Bool) → (b && true) && b ≡ b
 and-same true = refl
 and-same false = refl
 
-and-assoc : (a b c : Bool) → (a && b) && c ≡ a && (b && c)
-and-assoc true b c = refl
-and-assoc false b c = refl
-
-and-swap : (a b c d : Bool) → (a && b) && (c && d) ≡ (a && c) && (b && d)
+pub and-swap : (a b c d : Bool) → (a && b) && (c && d) ≡ (a && c) && (b && d)
 and-swap true true c d = refl
 and-swap true false c d = sym (and-false c)
 and-swap false b c d = refl

@@ -70,7 +70,7 @@ pub fn place_at(t: Task, progress: u16) -> usize
 }
 
 // Ready inside a step, waiting inside a wait, done at L.
-pub fn standing_at(t: Task, progress: u16) -> Standing
+pub(crate) fn standing_at(t: Task, progress: u16) -> Standing
     ensures { λ r. ⌜ standingOf r ≡ standing (taskOf t) progress ⌝ }
 {
     let place = place_at(t, progress);
@@ -84,7 +84,7 @@ pub fn standing_at(t: Task, progress: u16) -> Standing
 }
 
 // The progress after a slot: it rises if the task was chosen and ready, or waited.
-pub fn moved_on(t: Task, chosen: bool, progress: u16) -> u16
+pub(crate) fn moved_on(t: Task, chosen: bool, progress: u16) -> u16
     ensures { λ r. ⌜ r ≡ moved (standing (taskOf t) progress) chosen progress ⌝ }
 {
     match standing_at(t, progress) {

@@ -36,7 +36,7 @@ pub fn live(s: TaskSet, slot: u16, progress: [u16; 8]) -> bool
 }
 
 // The choice is idle or a ready task.
-pub fn may_choose(s: TaskSet, progress: [u16; 8], choice: u8) -> bool
+pub(crate) fn may_choose(s: TaskSet, progress: [u16; 8], choice: u8) -> bool
     ensures { λ r. ⌜ r ≡ allowed (setOf s) (progressOf s progress) choice ⌝ }
 {
     if choice == 255 {
@@ -55,7 +55,7 @@ pub fn may_choose(s: TaskSet, progress: [u16; 8], choice: u8) -> bool
 }
 
 // Both hold.
-fn both(a: bool, b: bool) -> bool
+pub fn both(a: bool, b: bool) -> bool
     ensures { λ r. ⌜ r ≡ a && b ⌝ }
 {
     if a {

@@ -27,7 +27,7 @@ fn divisor(a: u32, b: u32) -> u32
 }
 
 // The least common multiple with its bound: 4,097 where it is above 4,096.
-fn multiple(a: u16, b: u16) -> u16
+pub fn multiple(a: u16, b: u16) -> u16
     ensures { λ r. ⌜ r ≡ bounded (lcm a b) ⌝ }
 {
     if a == 0 {

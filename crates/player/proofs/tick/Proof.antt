@@ -1,84 +1,68 @@
 -- `player::tick` gives the reply of the rules. Assumes nothing.
-use mathlib.Core.Path.{_≡_}
-use lib.ListN.{length}
 use borrow.Author.Needs.{needs}
-use Rattle.player.proofs.Ticks.{formed, slot-under, slot-in, refused-form, refused-reports, refused-length, refused-entry, accepted}
+use Rattle.player.proofs.ByValue.{value-refused, value-accepted}
 use Rattle.player.proofs.tick.Statement.{statement}
 use Rattle.player.proofs.tick.Tie as tie
 
--- the plan is an array of eight
-planned-long : (c : tie.Start) → length (c .args .state .planned) ≡ 8
-planned-long c = search needs
+slice-aggregate-put-state : tie.Need-slice-aggregate-put-state
+slice-aggregate-put-state c = search needs
 
-form-of-requires : tie.Need-form-of-requires
-form-of-requires c κs = search needs
+put-state-requires : tie.Need-put-state-requires
+put-state-requires c κs = search needs
+
+slice-aggregate-tick-string : tie.Need-slice-aggregate-tick-string
+slice-aggregate-tick-string c = search needs
+
+slice-aggregate-tick-string-2 : tie.Need-slice-aggregate-tick-string-2
+slice-aggregate-tick-string-2 c = search needs
+
+slice-aggregate-tick-string-3 : tie.Need-slice-aggregate-tick-string-3
+slice-aggregate-tick-string-3 c = search needs
+
+tick-string-requires : tie.Need-tick-string-requires
+tick-string-requires c κs = search needs
+
+cast-tick-refused : tie.Need-cast-tick-refused
+cast-tick-refused c = search needs
 
 tick-refused-requires : tie.Need-tick-refused-requires
 tick-refused-requires c κs = search needs
 
 returns : tie.Need-returns
-returns c = search refused-form
+returns c =
+    let t = c .before .before .before .before in
+    let p = t .before .before .before .before .before in
+    value-refused (p .before .before .before .before .args .state) _ _ _ _ _ _ (p .put-state .ensures) (t .tick-string .ensures .0) (t .tick-string .ensures .1 .0) (t .tick-string .ensures .1 .1) _ (c .before .if1 .taken) (c .tick-refused .ensures)
 
-cast-if2 : tie.Need-cast-if2
-cast-if2 c = search needs
+cast-t20 : tie.Need-cast-t20
+cast-t20 c = search needs
 
-tick-refused-requires-2 : tie.Need-tick-refused-requires-2
-tick-refused-requires-2 c κs = search needs
+slice-aggregate-get-state : tie.Need-slice-aggregate-get-state
+slice-aggregate-get-state c = search needs
+
+get-state-requires : tie.Need-get-state-requires
+get-state-requires c κs = search needs
 
 returns-2 : tie.Need-returns-2
-returns-2 c = search refused-reports
-
-cast-if3 : tie.Need-cast-if3
-cast-if3 c = search needs
-
-tick-refused-requires-3 : tie.Need-tick-refused-requires-3
-tick-refused-requires-3 c κs = search needs
-
-returns-3 : tie.Need-returns-3
-returns-3 c = search refused-length
-
-cast-at : tie.Need-cast-at
-cast-at c = search needs
-
-shared-slice-read-advance : tie.Need-shared-slice-read-advance
-shared-slice-read-advance c = search slot-in
-
-advance-requires : tie.Need-advance-requires
-advance-requires c κs = search needs
-
-tick-refused-requires-4 : tie.Need-tick-refused-requires-4
-tick-refused-requires-4 c κs = search needs
-
-returns-4 : tie.Need-returns-4
-returns-4 c = let p = planned-long (c .before .before .before .before .before .before .before .before .before .before .before .before .before .before .before .before) in search refused-entry
-
-turns-requires : tie.Need-turns-requires
-turns-requires c κs = (search formed, (search slot-in, search needs))
-
-slot-after-requires : tie.Need-slot-after-requires
-slot-after-requires c κs = search slot-under
-
-returns-5 : tie.Need-returns-5
-returns-5 c = let p = planned-long (c .before .before .before .before .before .before .before .before .before .before .before .before .before .before .before .before .before .before .before .before) in search accepted
+returns-2 c =
+    let t = c .before .before .before .before .before in
+    let p = t .before .before .before .before .before in
+    value-accepted (p .before .before .before .before .args .state) _ _ _ _ _ _ (p .put-state .ensures) (t .tick-string .ensures .0) (t .tick-string .ensures .1 .0) (t .tick-string .ensures .1 .1) _ (c .before .before .if1 .left) (c .get-state .ensures)
 
 pub tick-spec : {M : Type 1} → statement M
 tick-spec =
     tie.close
     (tie.spec
-    form-of-requires
+    slice-aggregate-put-state
+    put-state-requires
+    slice-aggregate-tick-string
+    slice-aggregate-tick-string-2
+    slice-aggregate-tick-string-3
+    tick-string-requires
+    cast-tick-refused
     tick-refused-requires
     returns
-    cast-if2
-    tick-refused-requires-2
-    returns-2
-    cast-if3
-    tick-refused-requires-3
-    returns-3
-    cast-at
-    shared-slice-read-advance
-    advance-requires
-    tick-refused-requires-4
-    returns-4
-    turns-requires
-    slot-after-requires
-    returns-5)
+    cast-t20
+    slice-aggregate-get-state
+    get-state-requires
+    returns-2)

@@ -13,7 +13,7 @@ use Rattle.rules.specs.Positions.{moved, starts}
 use Rattle.rules.specs.Jobs.{overrun, Stand, Ready, Waiting, Done, Stopped, Job, finished, stop, reported, begun, ownerRuns, ownerLate, ownedBy, turn, openJobs}
 use Rattle.rules.specs.Observer.{Phase, inStep, inWait, over, broken, Watch, opening, demand, breaks, afterEnd, stepEnds, waitEnds, heardIn, heard, slotIn, slotPasses, watched, openObserver}
 use Rattle.rules.proofs.Play.Keep.{off-suc, off-le, Keeps, Level, Lane, lane, laneNext, told, Follows, starts-at, starts-not, slotted, waitedNow, after-report, after-slot, not-late, no-code, no-fault, inside-span, Sized, SizedJob, sized, sized-report, sized-begun}
-use Rattle.rules.proofs.Lists.{clash-bool}
+use Rattle.rules.proofs.Lists.{clash-bool, and-parts}
 
 -- ── the observer's notes and the player's job ───────────────────────────────
 
@@ -26,14 +26,6 @@ Match w (Stopped c) k g v = Unit {0}
 
 abbrev pub MatchJob : Watch → Job → ℕ → Type 0
 MatchJob w j v = Match w (j .stand) (j .step) (j .given) v
-
-and-left : (a b : Bool) → (a && b) ≡ true → a ≡ true
-and-left true b e = refl
-and-left false b e = e
-
-and-right : (a b : Bool) → (a && b) ≡ true → b ≡ true
-and-right true b e = e
-and-right false b e = clash-bool e
 
 -- what stays in a slot
 slot-phase : (w : Watch) (b : Bool) → slotPasses b w .phase ≡ w .phase
@@ -64,14 +56,14 @@ unfolding heard heardIn demand breaks afterEnd stepEnds waitEnds
 heard-keeps τ ran r w e = go (w .phase) ran r e
   where
     go : (f : Phase) (ran : Bool) (r : ℕ) → heardIn τ f ran r w .keeps ≡ true → w .keeps ≡ true
-    go inStep true zero e = and-left (w .keeps) _ e
-    go inStep true (suc zero) e = and-left (w .keeps) _ e
+    go inStep true zero e = and-parts (w .keeps) _ e .0
+    go inStep true (suc zero) e = and-parts (w .keeps) _ e .0
     go inStep true (suc (suc r)) e = clash-bool e
     go inStep false zero e = e
     go inStep false (suc r) e = clash-bool e
-    go inWait ran zero e = and-left (w .keeps) _ e
+    go inWait ran zero e = and-parts (w .keeps) _ e .0
     go inWait ran (suc zero) e = clash-bool e
-    go inWait ran (suc (suc zero)) e = and-left (w .keeps) _ e
+    go inWait ran (suc (suc zero)) e = and-parts (w .keeps) _ e .0
     go inWait ran (suc (suc (suc r))) e = clash-bool e
     go over ran zero e = e
     go over ran (suc r) e = e
@@ -146,12 +138,12 @@ module _ (τ : Task) where
   keeps-report : (w : Watch) (ran : Bool) (r : ℕ) (st : Stand) (k g v : ℕ) → Match w st k g v → heard τ ran r w .keeps ≡ true
       → Keeps τ st ran k g v r ⊎ ((heard τ ran r w .phase ≡ over) × (heard τ ran r w .quiet ≡ false))
   unfolding heardIn demand breaks afterEnd written waitWritten
-  keeps-report w true zero Ready k g v M e = inl (inr (refl, ltb-true g (getD (τ .pattern) (k + k) 0) (rw (M .1, M .2) at (and-right (w .keeps) (ltb (w .got) (getD (τ .pattern) (w .step + w .step) 0)) (rw (heard-at τ true zero w inStep (M .0)) at e)))))
+  keeps-report w true zero Ready k g v M e = inl (inr (refl, ltb-true g (getD (τ .pattern) (k + k) 0) (rw (M .1, M .2) at (and-parts (w .keeps) (ltb (w .got) (getD (τ .pattern) (w .step + w .step) 0)) (rw (heard-at τ true zero w inStep (M .0)) at e) .1))))
   keeps-report w true (suc zero) Ready k g v M e = inl (inl refl)
   keeps-report w true (suc (suc r)) Ready k g v M e = clash-bool (rw (heard-at τ true (suc (suc r)) w inStep (M .0)) at e)
   keeps-report w false zero Ready k g v M e = inl refl
   keeps-report w false (suc r) Ready k g v M e = clash-bool (rw (heard-at τ false (suc r) w inStep (M .0)) at e)
-  keeps-report w ran zero Waiting k g v M e = inl (inr (refl, ltb-true v (getD (τ .pattern) (suc (k + k)) 0) (rw (M .1, M .2) at (and-right (w .keeps) (ltb (w .waited) (getD (τ .pattern) (suc (w .step + w .step)) 0)) (rw (heard-at τ ran zero w inWait (M .0)) at e)))))
+  keeps-report w ran zero Waiting k g v M e = inl (inr (refl, ltb-true v (getD (τ .pattern) (suc (k + k)) 0) (rw (M .1, M .2) at (and-parts (w .keeps) (ltb (w .waited) (getD (τ .pattern) (suc (w .step + w .step)) 0)) (rw (heard-at τ ran zero w inWait (M .0)) at e) .1))))
   keeps-report w ran (suc zero) Waiting k g v M e = clash-bool (rw (heard-at τ ran (suc zero) w inWait (M .0)) at e)
   keeps-report w ran (suc (suc zero)) Waiting k g v M e = inl (inl refl)
   keeps-report w ran (suc (suc (suc r))) Waiting k g v M e = clash-bool (rw (heard-at τ ran (suc (suc (suc r))) w inWait (M .0)) at e)

@@ -1,5 +1,6 @@
 -- `kiluvsaat_plan` is the planner's reply on byte strings. Assumes nothing.
 use Rattle.kiluvsaat.proofs.Planned.{plan-length, plan-refused, plan-answered}
+use native.Mathlib.Omega.{arith}
 use borrow.Author.Needs.{needs}
 use Rattle.kiluvsaat.proofs.prepare.kiluvsaat_plan.Statement.{statement}
 use Rattle.kiluvsaat.proofs.prepare.kiluvsaat_plan.Tie as tie
@@ -7,8 +8,8 @@ use Rattle.kiluvsaat.proofs.prepare.kiluvsaat_plan.Tie as tie
 returns : tie.Need-returns
 returns c = plan-length _ _ _ _ (c .if1 .taken)
 
-get-set-requires : tie.Need-get-set-requires
-get-set-requires c κs = search needs
+set-in-requires : tie.Need-set-in-requires
+set-in-requires c κs = search needs
 
 plan-requires : tie.Need-plan-requires
 plan-requires c κs = search needs
@@ -32,7 +33,7 @@ returns-2 : tie.Need-returns-2
 returns-2 c =
     let p = c .before .before .before .before .before .before .before in
     let g = p .before .before .before in
-    plan-refused _ _ _ _ (g .before .if1 .left) _ (g .get-set .ensures) _ _ _ (p .plan .ensures) _ (c .before .answer .given .1)
+    plan-refused _ _ _ _ (g .before .if1 .left) _ (g .set-in .ensures .0 (omega (arith, g .before .if1 .left))) _ _ _ (p .plan .ensures) _ (c .before .answer .given .1)
 
 same-length-3 : tie.Need-same-length-3
 same-length-3 c = search needs
@@ -45,14 +46,14 @@ returns-3 c =
     let k = c .before in
     let p = k .before .before .before .before .before .before .before in
     let g = p .before .before .before in
-    plan-answered _ _ _ _ (g .before .if1 .left) _ (g .get-set .ensures) _ _ _ (p .plan .ensures) _ _ (k .before .answer2 .given .1) _ (c .word-number .ensures)
+    plan-answered _ _ _ _ (g .before .if1 .left) _ (g .set-in .ensures .0 (omega (arith, g .before .if1 .left))) _ _ _ (p .plan .ensures) _ _ (k .before .answer2 .given .1) _ (c .word-number .ensures)
 
 pub kiluvsaat-plan-spec : {M : Type 1} → statement M
 kiluvsaat-plan-spec =
     tie.close
     (tie.spec
     returns
-    get-set-requires
+    set-in-requires
     plan-requires
     enum-known-answer
     enum-known-answer-2

@@ -13,8 +13,8 @@ returns c = read-refused _ _ _ (c .before .read .ensures) (c .if1 .taken)
 returns-2 : tie.Need-returns-2
 returns-2 c = read-short _ _ _ (c .before .before .read .ensures) (c .before .if1 .left) (c .if2 .taken)
 
-put-set-requires : tie.Need-put-set-requires
-put-set-requires c κs = search needs
+write-set-requires : tie.Need-write-set-requires
+write-set-requires c κs = search needs
 
 same-length : tie.Need-same-length
 same-length c = search needs
@@ -23,7 +23,7 @@ returns-3 : tie.Need-returns-3
 returns-3 c =
     let p = c .before .before in
     let l = p .before .before .before in
-    read-done _ _ _ (l .before .before .read .ensures) (l .before .if1 .left) _ (l .if2 .left) (p .put-set .ensures)
+    read-done _ _ _ (l .before .before .read .ensures) (l .before .if1 .left) _ (l .if2 .left) (p .write-set .ensures)
 
 pub kiluvsaat-read-spec : {M : Type 1} → statement M
-kiluvsaat-read-spec = tie.close (tie.spec read-requires returns returns-2 put-set-requires same-length returns-3)
+kiluvsaat-read-spec = tie.close (tie.spec read-requires returns returns-2 write-set-requires same-length returns-3)

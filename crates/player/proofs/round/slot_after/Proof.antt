@@ -1,6 +1,6 @@
 -- `player::round::slot_after` is the next slot, 0 after the last. Assumes nothing.
 use borrow.Author.Needs.{needs}
-use Rattle.player.proofs.Ticks.{wraps, goes-up}
+use Rattle.player.proofs.Rounds.{wraps, goes-up}
 use Rattle.player.proofs.round.slot_after.Statement.{statement}
 use Rattle.player.proofs.round.slot_after.Tie as tie
 

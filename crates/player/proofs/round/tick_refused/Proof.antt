@@ -1,5 +1,5 @@
 -- `player::round::tick_refused` is the answer to a refused tick. Assumes nothing.
-use Rattle.player.proofs.Ticks.{refused-as}
+use Rattle.player.proofs.Rounds.{refused-as}
 use Rattle.player.proofs.round.tick_refused.Statement.{statement}
 use Rattle.player.proofs.round.tick_refused.Tie as tie
 
