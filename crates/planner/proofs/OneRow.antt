@@ -8,20 +8,20 @@ use native.Mathlib.Nat.{zero-add, mod-eq-of-lt}
 use native.Mathlib.Numerals.{add-one}
 use native.Mathlib.Omega.{arith}
 use borrow.Author.Tests.{eq-eqb, ne-eqb, le-leb, lt-leb}
-use lib.Dec.{T, eqb, leb}
+use lib.Dec.{eqb, leb}
 use lib.ListN.{length, getD, take, drop, set, length-drop, length-set}
 use lib.Seq.{sets, length-sets, getD-drop, getD-set-same, getD-set-other, length-take-le}
 use Rattle.rules.specs.Lists.{tabulate}
 use Rattle.rules.specs.Tasks.{Task, span, placeOf, standing}
 use Rattle.rules.specs.Tasks as model
 use Rattle.rules.specs.Positions.{inTime}
-use Rattle.rules.proofs.Laws.{T-true, le-or-lt, inTime-lax, inTime-use}
+use Rattle.rules.proofs.Laws.{le-or-lt}
 use Rattle.rules.proofs.Lists.{tabulate-length}
 use Rattle.tasks.specs.declared.Task as code
 use Rattle.tasks.specs.declared.TaskSet.{TaskSet}
 use Rattle.tasks.specs.Views.{noEntry, entryOf, taskOf, setOf}
 use Rattle.tasks.proofs.Views.{units-length}
-use Rattle.tasks.proofs.OneTask.{in-time-done, place-more, place-here, place-end, stands-done, stands-ready, stands-waiting}
+use Rattle.tasks.proofs.OneTask.{in-time-done, place-more, place-here, place-end, stands-done, stands-ready, stands-waiting, lax-is}
 use Rattle.tasks.proofs.Positions.{set-fits}
 use Rattle.planner.specs.Rows.{rowOf, AreRows, taskAt, Row}
 
@@ -45,17 +45,6 @@ module _ (rows : List ℕ) (at : ℕ) where
   slot-ends slot = add-one (slot % getD rows at 0)
 
 -- ── in time ─────────────────────────────────────────────────────────────────
-
-not-so : (b : Bool) → (T b → ⊥) → b ≡ false
-not-so true h = absurd (h tt)
-not-so false h = refl
-
-lax-is : (e : ℕ) (τ : Task) (p : ℕ) → p < span τ → leb (e + span τ) (τ .deadline + p) ≡ inTime e τ p
-lax-is e τ p h = go (le-or-lt (e + span τ) (τ .deadline + p))
-  where
-    go : (e + span τ ≤ τ .deadline + p) ⊎ (τ .deadline + p < e + span τ) → leb (e + span τ) (τ .deadline + p) ≡ inTime e τ p
-    go (inl k) = le-leb (e + span τ) (τ .deadline + p) k ∙ sym (T-true (inTime e τ p) (inTime-lax e τ p (omega arith) k))
-    go (inr k) = lt-leb (e + span τ) (τ .deadline + p) k ∙ sym (not-so (inTime e τ p) (λ t. let l = inTime-use e τ p h t in omega arith))
 
 module _ (rows : List ℕ) (at since progress : ℕ) (r : Row rows at) where
   pub lasts-done : getD rows (at + 2) 0 ≤ progress → true ≡ inTime since (taskAt rows at) progress

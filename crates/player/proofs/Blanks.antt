@@ -69,14 +69,14 @@ quad-zero bs at = four-zero (pairAt bs at) (pairAt bs (at + 2))
 
 -- ── the parts of a task not in use ──────────────────────────────────────────
 
-ready-zero : (b : ℕ) → isReadyStand (standOfByte b) ≡ isZero b
+pub ready-byte : (b : ℕ) → isReadyStand (standOfByte b) ≡ isZero b
 unfolding isReadyStand standOfByte
-ready-zero zero = sym (is-zero 0 refl)
-ready-zero (suc zero) = sym (not-zero 1 (λ q. omega arith))
-ready-zero (suc (suc zero)) = sym (not-zero 2 (λ q. omega arith))
-ready-zero (suc (suc (suc zero))) = sym (not-zero 3 (λ q. omega arith))
-ready-zero (suc (suc (suc (suc zero)))) = sym (not-zero 4 (λ q. omega arith))
-ready-zero (suc (suc (suc (suc (suc b))))) = sym (not-zero (suc (suc (suc (suc (suc b))))) (λ q. omega arith))
+ready-byte zero = sym (is-zero 0 refl)
+ready-byte (suc zero) = sym (not-zero 1 (λ q. omega arith))
+ready-byte (suc (suc zero)) = sym (not-zero 2 (λ q. omega arith))
+ready-byte (suc (suc (suc zero))) = sym (not-zero 3 (λ q. omega arith))
+ready-byte (suc (suc (suc (suc zero)))) = sym (not-zero 4 (λ q. omega arith))
+ready-byte (suc (suc (suc (suc (suc b))))) = sym (not-zero (suc (suc (suc (suc (suc b))))) (λ q. omega arith))
 
 -- a task at a place
 task-zero : (bs : List ℕ) (at : ℕ) → isBlankTask (taskAt bs at) ≡ (isZero (quadAt bs at) && (isZero (quadAt bs (at + 4)) && isZero (quadAt bs (at + 8))))
@@ -105,7 +105,7 @@ pub job-zero : (bs : List ℕ) (at : ℕ) → isBlankJob (jobAt bs at) ≡ (isZe
 unfolding isBlankJob jobAt
 job-zero bs at =
     let one : suc at ≡ 1 + at = omega arith in
-    rw (pair-zero bs at, ready-zero (getD bs at 0), one) (sym (and-assoc (isZero (getD bs at 0)) (isZero (getD bs (1 + at) 0)) (isZero (getD bs (2 + at) 0))))
+    rw (pair-zero bs at, ready-byte (getD bs at 0), one) (sym (and-assoc (isZero (getD bs at 0)) (isZero (getD bs (1 + at) 0)) (isZero (getD bs (2 + at) 0))))
 
 module _ (bs : List ℕ) (i : ℕ) where
   at-zero : blankAt bs i ≡ (isZero (quadAt bs (1 + i * 12)) && (isZero (quadAt bs (1 + i * 12 + 4)) && (isZero (quadAt bs (1 + i * 12 + 8)) && (isZero (pairAt bs (99 + i * 2)) && (isZero (pairAt bs (115 + i * 3)) && isZero (getD bs (117 + i * 3) 0))))))

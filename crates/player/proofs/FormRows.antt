@@ -25,6 +25,7 @@ use Rattle.tasks.specs.Views.{bounded}
 use Rattle.tasks.proofs.Multiple.{bounded-over}
 use Rattle.player.specs.Bytes.{stateSize, pairAt, setAt, standOfByte, jobAt, stateAt, readable}
 use Rattle.player.specs.Looks.{recordFor, taskFor, planFor, jobFor, standFor, ranLast, numbers, fitsAt, blankAt, lastFits, goesWell, goesTo, isChoice}
+use Rattle.player.proofs.Blanks.{ready-byte}
 use Rattle.player.proofs.Rows.{used-rows, set-rows, plan-rows, job-rows}
 use Rattle.player.proofs.Slots.{legal-rows, next-rows}
 
@@ -81,15 +82,6 @@ refusals-numbers r i zero = refl
 refusals-numbers r i (suc n) = first-zero (taskRefusal (r i)) (tasksRefusal (tabulate r (suc i) n)) ∙ ap (λ t. eqb (taskRefusal (r i)) 0 && t) (refusals-numbers r (suc i) n)
 
 -- ── standings ───────────────────────────────────────────────────────────────
-
-ready-byte : (b : ℕ) → isReadyStand (standOfByte b) ≡ isZero b
-unfolding isReadyStand standOfByte isZero
-ready-byte zero = refl
-ready-byte (suc zero) = refl
-ready-byte (suc (suc zero)) = refl
-ready-byte (suc (suc (suc zero))) = refl
-ready-byte (suc (suc (suc (suc zero)))) = refl
-ready-byte (suc (suc (suc (suc (suc b))))) = sym (eqb·suc-zero (suc (suc (suc (suc b)))))
 
 -- the last runner
 last-rows : (bs : List ℕ) (n : ℕ) → lastForm n (getD bs 139 0) (tabulate (jobFor bs) 0 n) ≡ lastFits bs n

@@ -17,21 +17,15 @@ use Rattle.rules.specs.Tasks.{Task, sum, span, ready, waiting, done, standing, 
 use Rattle.rules.specs.Positions.{moved, passed, starts, laxity, inTime}
 use Rattle.rules.specs.Records.{TaskRecord, between, allBetween, patternOf, taskIn, taskRefusal}
 use Rattle.rules.specs.States.{unitsTidy, jobForm}
-use Rattle.rules.proofs.Laws.{T-true, le-or-lt, undone, done-at, inTime-lax, inTime-use}
+use Rattle.rules.proofs.Laws.{le-or-lt, undone, done-at}
 use Rattle.rules.proofs.Lists.{clash-bool, and-parts, tabulate-length}
 use Rattle.tasks.specs.Slots.{onward, wellAfter}
-use Rattle.tasks.proofs.OneTask.{done-from, undone-till, in-time-done, in-time-left, stands-done, stands-ready, stands-waiting}
+use Rattle.tasks.proofs.OneTask.{done-from, undone-till, in-time-done, in-time-left, stands-done, stands-ready, stands-waiting, lax-is}
 use Rattle.tasks.proofs.Slotwise.{pass-over, pass-amid}
 use Rattle.player.specs.Bytes.{pairAt, taskAt}
 use Rattle.player.specs.Looks.{entries, recordFor, taskFor, planFor, jobFor, standFor, ranLast, sizesFit, laxityLeft, lasts, planFits, fitsAt, mayRun, endOf, wellOn, goesWell, goesTo}
 use Rattle.player.proofs.Places.{tabulate-same, tabulate-few}
 use Rattle.player.proofs.Tests.{told-no, told-yes}
-
--- ── tests ───────────────────────────────────────────────────────────────────
-
-not-so : (b : Bool) → (T b → ⊥) → b ≡ false
-not-so true h = absurd (h tt)
-not-so false h = refl
 
 -- ── the numbers of a task ───────────────────────────────────────────────────
 
@@ -102,13 +96,6 @@ pattern-read bs at m e h =
     ∙ tabulate-same (λ k. getD bs (5 + at + k) 0) (λ k. getD bs (at + 5 + k) 0) 0 (m + m - 1) (λ k l. ap (λ n. getD bs n 0) (omega arith))
 
 -- ── in time ─────────────────────────────────────────────────────────────────
-
-lax-is : (e : ℕ) (τ : Task) (p : ℕ) → p < span τ → leb (e + span τ) (τ .deadline + p) ≡ inTime e τ p
-lax-is e τ p h = go (le-or-lt (e + span τ) (τ .deadline + p))
-  where
-    go : (e + span τ ≤ τ .deadline + p) ⊎ (τ .deadline + p < e + span τ) → leb (e + span τ) (τ .deadline + p) ≡ inTime e τ p
-    go (inl k) = le-leb (e + span τ) (τ .deadline + p) k ∙ sym (T-true (inTime e τ p) (inTime-lax e τ p (omega arith) k))
-    go (inr k) = lt-leb (e + span τ) (τ .deadline + p) k ∙ sym (not-so (inTime e τ p) (λ t. let l = inTime-use e τ p h t in omega arith))
 
 pub in-time-is : (τ : Task) (since p : ℕ) → lasts (span τ) (τ .deadline) since p ≡ inTime since τ p
 unfolding lasts

@@ -6,7 +6,7 @@ use mathlib.Core.List.{List, [], _∷_}
 use Prim.Native.Nat.{ℕ, suc, _+_, _-_, _*_, _%_, _≤_, _<_, _^_}
 use native.Mathlib.Numerals.{add-one}
 use native.Mathlib.Omega.{arith}
-use lib.Dec.{ltb}
+use lib.Dec.{T, leb, ltb}
 use lib.IntN.{ℤ, pos, negsuc, _-ℤ_}
 use lib.Signed.{mag, nonNeg, leZ}
 use lib.ListN.{length, getD, take, drop, length-take, drop-of-length-le, List·getD-eq-default}
@@ -15,11 +15,11 @@ use mir.Syntax.{w8, w16, w32}
 use mir.Val.{Fits, SFits, hbits, toZ, ofZ}
 use mir.Facts.{toZ-pos, toZ-ofZ}
 use borrow.Author.Needs.{sfits-of}
-use borrow.Author.Tests.{lt-ltb, le-ltb, le-leb}
+use borrow.Author.Tests.{lt-ltb, le-ltb, le-leb, lt-leb}
 use Rattle.rules.specs.Tasks as model
 use Rattle.rules.specs.Tasks.{sum, span, Standing, ready, waiting, done, within, standing, isDone, placeOf}
 use Rattle.rules.specs.Positions.{laxity, inTime}
-use Rattle.rules.proofs.Laws.{le-or-lt, done-at, undone, mag-sub, mag-less}
+use Rattle.rules.proofs.Laws.{T-true, le-or-lt, done-at, undone, inTime-lax, inTime-use, mag-sub, mag-less}
 use Rattle.rules.proofs.Lists.{clash-01, clash-bool}
 use Rattle.tasks.specs.declared.Task.{Task}
 use Rattle.tasks.specs.declared.Standing as code
@@ -206,3 +206,15 @@ module _ (τ : model.Task) (length p : ℕ) (whole : length ≡ span τ) where
   pub in-time-left : (e : ℕ) → p < length → leZ (pos 0) (laxity τ e p) ≡ inTime e τ p
   unfolding inTime
   in-time-left e h = rw (undone-till h) (from-zero (laxity τ e p))
+
+-- a job that is not done is in time where time and length do not pass deadline and progress
+not-so : (b : Bool) → (T b → ⊥) → b ≡ false
+not-so true h = absurd (h tt)
+not-so false h = refl
+
+pub lax-is : (e : ℕ) (τ : model.Task) (p : ℕ) → p < span τ → leb (e + span τ) (τ .deadline + p) ≡ inTime e τ p
+lax-is e τ p h = go (le-or-lt (e + span τ) (τ .deadline + p))
+  where
+    go : (e + span τ ≤ τ .deadline + p) ⊎ (τ .deadline + p < e + span τ) → leb (e + span τ) (τ .deadline + p) ≡ inTime e τ p
+    go (inl k) = le-leb (e + span τ) (τ .deadline + p) k ∙ sym (T-true (inTime e τ p) (inTime-lax e τ p (omega arith) k))
+    go (inr k) = lt-leb (e + span τ) (τ .deadline + p) k ∙ sym (not-so (inTime e τ p) (λ t. let l = inTime-use e τ p h t in omega arith))

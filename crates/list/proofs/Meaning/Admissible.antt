@@ -12,12 +12,12 @@ use Rattle.rules.specs.Lists.{allOf, isZero, padded}
 use Rattle.rules.specs.Hyper.{hyper}
 use Rattle.rules.specs.Records.{TaskRecord, between, patternOf, taskRefusal, orElse, tasksRefusal, tasksIn, setRefusal, noRecord, Arrays, used, recordRefusal}
 use Rattle.rules.specs.States.{blankTask, tidyTask, tidied}
-use Rattle.rules.proofs.Lists.{clash}
+use Rattle.rules.proofs.Lists.{clash, and-parts}
 use Rattle.rules.proofs.Set.Tidy.{padded-take}
 use Rattle.list.specs.Text.{lines, words}
 use Rattle.list.specs.Reading.{ReadReply, isField, number, rightCount, taskFrom, lineTask, wellFormed, lineRefusal, refusedWhole, refusedLine, accepted, finish, readFrom, readList}
 use Rattle.list.specs.Replies.{Admissible}
-use Rattle.list.proofs.Meaning.Lists.{both, parts, Each, each-at, each-append}
+use Rattle.list.proofs.Meaning.Lists.{both, Each, each-at, each-append}
 use Rattle.list.proofs.Meaning.Reader.{read-step, list-step}
 
 -- ── a task that is read ─────────────────────────────────────────────────────
@@ -67,7 +67,7 @@ line-kept : (k : ℕ) (l : List ℕ) → lineRefusal k l ≡ 0 → (k < 8) × Ke
 unfolding lineTask wellFormed
 line-kept k l e =
     let a = line-formed k l e in
-    let c = parts (allOf isField (words l)) _ (a .1) .1 in
+    let c = and-parts (allOf isField (words l)) _ (a .1) .1 in
     let n = numbers-kept (map number (words l)) (rw (length-map (words l) number) c) in
     (a .0, record { fine = a .2; seven = n .0; tidy = n .1 })
 

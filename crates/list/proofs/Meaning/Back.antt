@@ -11,13 +11,13 @@ use Rattle.rules.specs.Lists.{padded}
 use Rattle.rules.specs.Hyper.{hyper}
 use Rattle.rules.specs.Records.{TaskRecord, between, allBetween, patternOf, taskRefusal, orElse, tasksRefusal, tasksIn, noRecord, SetRecord, Arrays, used, setIn, recordRefusal}
 use Rattle.rules.specs.States.{blankTask, tidyTask, tidied}
-use Rattle.rules.proofs.Lists.{clash}
+use Rattle.rules.proofs.Lists.{clash, and-parts}
 use Rattle.rules.proofs.Set.Admitted.{between-le, set-tasks}
 use Rattle.rules.proofs.Set.Tidy.{counts, used-length, used-tidied, refusal-tidied}
 use Rattle.rules.proofs.Set.Widths.{hyper-small}
 use Rattle.list.specs.Reading.{lineRefusal, accepted, finish, readFrom, readList}
 use Rattle.list.specs.Plain.{plainText}
-use Rattle.list.proofs.Meaning.Lists.{parts, not-zero, unrefused, Each}
+use Rattle.list.proofs.Meaning.Lists.{not-zero, unrefused, Each}
 use Rattle.list.proofs.Meaning.Plain.{Plain, lineOf, plain-stands, plain-task, plain-formed, text-short, text-lines}
 use Rattle.list.proofs.Meaning.Reader.{read-good, formed-refusal, list-short}
 
@@ -36,8 +36,8 @@ unfolding taskRefusal patternOf
 task-plain u e s =
     let a = unrefused (between 1 4 (u .steps)) 1 _ e in
     let b = unrefused (between 1 4096 (u .period) && (between 1 4096 (u .deadline) && allBetween 1 255 (patternOf u))) 2 _ (a .1) in
-    let c = parts (between 1 4096 (u .period)) _ (b .0) in
-    let d = parts (between 1 4096 (u .deadline)) _ (c .1) in
+    let c = and-parts (between 1 4096 (u .period)) _ (b .0) in
+    let d = and-parts (between 1 4096 (u .deadline)) _ (c .1) in
     let m = between-le 1 4 (u .steps) (a .0) in
     record { few = m .1; some = m .0; period = c .0; deadline = d .0; units = d .1; whole = length-take-le (u .steps + u .steps - 1) (u .units) (omega arith) }
 

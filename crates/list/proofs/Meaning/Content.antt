@@ -9,11 +9,12 @@ use lib.Dec.{leb}
 use lib.ListN.{length, length-map}
 use Rattle.rules.specs.Lists.{allOf}
 use Rattle.rules.specs.Records.{TaskRecord, taskRefusal}
+use Rattle.rules.proofs.Lists.{and-parts}
 use Rattle.list.specs.Text.{lines, words}
 use Rattle.list.specs.Reading.{ReadReply, isField, number, rightCount, taskFrom, lineTask, wellFormed, lineRefusal, skipped, refusedWhole, refusedLine, goOn, finish, readFrom, readList}
 use Rattle.list.specs.Content.{told, contentOf, content}
 use Rattle.list.specs.Replies.{Agree}
-use Rattle.list.proofs.Meaning.Lists.{decide, parts}
+use Rattle.list.proofs.Meaning.Lists.{decide}
 use Rattle.list.proofs.Meaning.Reader.{read-step, list-short}
 use Rattle.list.proofs.Meaning.Admissible.{line-formed}
 
@@ -49,7 +50,7 @@ told-all (w ∷ ws) = ap₂ (λ a b. a && b) (told-field w) (told-all ws)
 told-values : (ws : List (List ℕ)) → allOf isField ws ≡ true → map valueOf (map told ws) ≡ map number ws
 unfolding allOf
 told-values [] e = refl
-told-values (w ∷ ws) e = let a = parts (isField w) _ e in ap₂ {C = List ℕ} (λ x xs. x ∷ xs) (told-value w (a .0)) (told-values ws (a .1))
+told-values (w ∷ ws) e = let a = and-parts (isField w) _ e in ap₂ {C = List ℕ} (λ x xs. x ∷ xs) (told-value w (a .0)) (told-values ws (a .1))
 
 line-told : (l : List ℕ) → allOf isField (words l) ≡ true → lineTask l ≡ taskTold (map told (words l))
 unfolding lineTask taskTold
@@ -90,7 +91,7 @@ from-content (l ∷ ls) rs i at = read-step i at rs l ls (λ x. Agree x (readTol
     (λ e g. rw (
       content-keep l ls e,
       told-good rs (map told (words l)) (contentOf ls) (sym (refusal-told (length rs) l) ∙ g),
-      ← line-told l (parts (allOf isField (words l)) _ (line-formed (length rs) l g .1) .0),
+      ← line-told l (and-parts (allOf isField (words l)) _ (line-formed (length rs) l g .1) .0),
     )
     (from-content ls (rs ++ lineTask l ∷ []) (suc i) (at + suc (length l))))
     (λ n e g. rw (content-keep l ls e, told-bad rs (map told (words l)) (contentOf ls) n (sym (refusal-told (length rs) l) ∙ g)) (record { refusal = refl; set = refl }))

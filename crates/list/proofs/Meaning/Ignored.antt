@@ -10,11 +10,11 @@ use borrow.Author.Tests.{not-true, ne-eqb, le-leb, eqb-true}
 use lib.Dec.{eqb}
 use lib.ListN.{length, length-map}
 use Rattle.rules.specs.Lists.{allOf, isZero}
-use Rattle.rules.proofs.Lists.{clash-bool}
+use Rattle.rules.proofs.Lists.{clash-bool, and-parts}
 use Rattle.list.specs.Text.{endsLine, partsFields, onto, lines, atGap, words}
 use Rattle.list.specs.Reading.{isDigit, isField, numberFrom, number, isComment, skipped}
 use Rattle.list.specs.Content.{told, contentOf, content, inLine, lastOr, startsLine, startsWord, endsWord}
-use Rattle.list.proofs.Meaning.Lists.{decide, parts, all-weaken}
+use Rattle.list.proofs.Meaning.Lists.{decide, all-weaken}
 use Rattle.list.proofs.Meaning.Text.{inWord, lines-first, words-gap, words-end, words-on, words-first}
 use Rattle.list.proofs.Meaning.Plain.{digit-inLine, digit-inWord, noHash, digit-noHash}
 use Rattle.list.proofs.Meaning.Content.{content-skip}
@@ -236,9 +236,9 @@ zero-told w h = rw (zero-field w h, zero-number w) refl
 lines-word : (w b : List ℕ) → 1 ≤ length w → allOf inLine w ≡ true → lines (w ++ b) ≡ (w ++ firstOf (lines b)) ∷ restOf (lines b)
 unfolding allOf inLine firstOf restOf
 lines-word [] b h e = let z : ⊥ = omega arith in absurd z
-lines-word (c ∷ []) b h e = lines-on c b (not-true (endsLine c) (parts (inLine c) _ e .0))
+lines-word (c ∷ []) b h e = lines-on c b (not-true (endsLine c) (and-parts (inLine c) _ e .0))
 lines-word (c ∷ (d ∷ w)) b h e =
-    let p = parts (inLine c) _ e in
+    let p = and-parts (inLine c) _ e in
     lines-on c (d ∷ (w ++ b)) (not-true (endsLine c) (p .0)) ∙ ap (λ ls. (c ∷ firstOf ls) ∷ restOf ls) (lines-word (d ∷ w) b (omega arith) (p .1))
 
 module _ (w b : List ℕ) (some : 1 ≤ length w) (digits : allOf isDigit w ≡ true) (end : endsWord b ≡ true) where
@@ -251,7 +251,7 @@ module _ (w b : List ℕ) (some : 1 ≤ length w) (digits : allOf isDigit w ≡ 
 digits-comment : (w f : List ℕ) → 1 ≤ length w → allOf isDigit w ≡ true → isComment (w ++ f) ≡ false
 unfolding isComment allOf noHash
 digits-comment [] f h e = let z : ⊥ = omega arith in absurd z
-digits-comment (b ∷ w) f h e = not-true (eqb b 35) (digit-noHash b (parts (isDigit b) _ e .0))
+digits-comment (b ∷ w) f h e = not-true (eqb b 35) (digit-noHash b (and-parts (isDigit b) _ e .0))
 
 zero-digits : (w : List ℕ) → allOf isDigit w ≡ true → allOf isDigit (48 ∷ w) ≡ true
 unfolding allOf isDigit

@@ -8,7 +8,7 @@ use native.Mathlib.Omega.{arith}
 use borrow.Author.Tests.{eqb-true, eq-eqb, ne-eqb}
 use lib.ListN.{length, getD}
 use Rattle.rules.specs.Lists.{allOf, isZero}
-use Rattle.rules.proofs.Lists.{clash, clash-bool}
+use Rattle.rules.proofs.Lists.{clash, and-parts}
 
 -- ── tests ───────────────────────────────────────────────────────────────────
 
@@ -19,19 +19,15 @@ decide false = inr refl
 pub both : (a b : Bool) → a ≡ true → b ≡ true → (a && b) ≡ true
 both a b p q = rw p q
 
-pub parts : (a b : Bool) → (a && b) ≡ true → (a ≡ true) × (b ≡ true)
-parts true b e = (refl, e)
-parts false b e = clash-bool e
-
 pub all-append : {A : Type 0} (f : A → Bool) (xs ys : List A) → allOf f xs ≡ true → allOf f ys ≡ true → allOf f (xs ++ ys) ≡ true
 unfolding allOf
 all-append f [] ys p q = q
-all-append f (x ∷ xs) ys p q = let a = parts (f x) (allOf f xs) p in both (f x) _ (a .0) (all-append f xs ys (a .1) q)
+all-append f (x ∷ xs) ys p q = let a = and-parts (f x) (allOf f xs) p in both (f x) _ (a .0) (all-append f xs ys (a .1) q)
 
 pub all-weaken : {A : Type 0} (f g : A → Bool) → ((x : A) → f x ≡ true → g x ≡ true) → (xs : List A) → allOf f xs ≡ true → allOf g xs ≡ true
 unfolding allOf
 all-weaken f g h [] p = refl
-all-weaken f g h (x ∷ xs) p = let a = parts (f x) (allOf f xs) p in both (g x) _ (h x (a .0)) (all-weaken f g h xs (a .1))
+all-weaken f g h (x ∷ xs) p = let a = and-parts (f x) (allOf f xs) p in both (g x) _ (h x (a .0)) (all-weaken f g h xs (a .1))
 
 pub zero-true : (n : ℕ) → isZero n ≡ true → n ≡ 0
 unfolding isZero

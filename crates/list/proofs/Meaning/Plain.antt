@@ -13,11 +13,12 @@ use Rattle.rules.specs.Lists.{allOf, isZero, padded}
 use Rattle.rules.specs.Records.{TaskRecord, between, allBetween, patternOf}
 use Rattle.rules.specs.States.{tidyTask}
 use Rattle.rules.proofs.Set.Admitted.{between-le}
+use Rattle.rules.proofs.Lists.{and-parts}
 use Rattle.list.specs.Text.{endsLine, partsFields, lines}
 use Rattle.list.specs.Reading.{isDigit, isField, numberFrom, number, isComment, skipped, rightCount, taskFrom, lineTask, wellFormed}
 use Rattle.list.specs.Plain.{digitsIn, digits, spaced, plainLine, plainLines}
 use Rattle.list.specs.Content.{inLine}
-use Rattle.list.proofs.Meaning.Lists.{decide, both, parts, zero-true, is-zero, not-zero, all-append, all-weaken, Each}
+use Rattle.list.proofs.Meaning.Lists.{decide, both, zero-true, is-zero, not-zero, all-append, all-weaken, Each}
 use Rattle.list.proofs.Meaning.Text.{lines-first, inWord, isWord, words-spaced}
 
 -- ── the digits of a number ──────────────────────────────────────────────────
@@ -66,18 +67,18 @@ number-digits (suc k) n h = ⊎-elim (λ e. rw e (sym (zero-true n e)))
 
 pub digit-inLine : (b : ℕ) → isDigit b ≡ true → inLine b ≡ true
 unfolding isDigit inLine endsLine
-digit-inLine b e = let h = leb-true 48 b (parts (leb 48 b) (leb b 57) e .0) in rw (ne-eqb b 10 (omega arith)) refl
+digit-inLine b e = let h = leb-true 48 b (and-parts (leb 48 b) (leb b 57) e .0) in rw (ne-eqb b 10 (omega arith)) refl
 
 pub digit-inWord : (b : ℕ) → isDigit b ≡ true → inWord b ≡ true
 unfolding isDigit inWord partsFields
-digit-inWord b e = let h = leb-true 48 b (parts (leb 48 b) (leb b 57) e .0) in rw (ne-eqb b 32 (omega arith)) refl
+digit-inWord b e = let h = leb-true 48 b (and-parts (leb 48 b) (leb b 57) e .0) in rw (ne-eqb b 32 (omega arith)) refl
 
 unfoldable pub noHash : ℕ → Bool
 noHash b = not (eqb b 35)
 
 pub digit-noHash : (b : ℕ) → isDigit b ≡ true → noHash b ≡ true
 unfolding isDigit noHash
-digit-noHash b e = let h = leb-true 48 b (parts (leb 48 b) (leb b 57) e .0) in rw (ne-eqb b 35 (omega arith)) refl
+digit-noHash b e = let h = leb-true 48 b (and-parts (leb 48 b) (leb b 57) e .0) in rw (ne-eqb b 35 (omega arith)) refl
 
 digits-word : (n : ℕ) → between 1 9999 n ≡ true → isWord (digits n) ≡ true
 unfolding isWord digits
@@ -96,7 +97,7 @@ digits-number n e = number-digits 4 n (let h = between-le 1 9999 n e .1 in omega
 digits-each : (f : List ℕ → Bool) → ((n : ℕ) → between 1 9999 n ≡ true → f (digits n) ≡ true) → (ns : List ℕ) → allBetween 1 9999 ns ≡ true → allOf f (map digits ns) ≡ true
 unfolding allBetween allOf
 digits-each f h [] e = refl
-digits-each f h (n ∷ ns) e = let a = parts (between 1 9999 n) _ e in both (f (digits n)) _ (h n (a .0)) (digits-each f h ns (a .1))
+digits-each f h (n ∷ ns) e = let a = and-parts (between 1 9999 n) _ e in both (f (digits n)) _ (h n (a .0)) (digits-each f h ns (a .1))
 
 digits-words : (ns : List ℕ) → allBetween 1 9999 ns ≡ true → allOf isWord (map digits ns) ≡ true
 digits-words = digits-each isWord digits-word
@@ -107,15 +108,15 @@ digits-fields = digits-each isField digits-field
 digits-numbers : (ns : List ℕ) → allBetween 1 9999 ns ≡ true → map number (map digits ns) ≡ ns
 unfolding allBetween
 digits-numbers [] e = refl
-digits-numbers (n ∷ ns) e = let a = parts (between 1 9999 n) _ e in ap₂ {C = List ℕ} (λ x xs. x ∷ xs) (digits-number n (a .0)) (digits-numbers ns (a .1))
+digits-numbers (n ∷ ns) e = let a = and-parts (between 1 9999 n) _ e in ap₂ {C = List ℕ} (λ x xs. x ∷ xs) (digits-number n (a .0)) (digits-numbers ns (a .1))
 
 -- what holds of every digit and of a space holds of every byte of the line
 spaced-all : (f : ℕ → Bool) → f 32 ≡ true → (ws : List (List ℕ)) → allOf (allOf f) ws ≡ true → allOf f (spaced ws) ≡ true
 unfolding spaced allOf
 spaced-all f s [] e = refl
-spaced-all f s (w ∷ []) e = parts (allOf f w) true e .0
+spaced-all f s (w ∷ []) e = and-parts (allOf f w) true e .0
 spaced-all f s (w ∷ (v ∷ ws)) e =
-    let a = parts (allOf f w) _ e in
+    let a = and-parts (allOf f w) _ e in
     all-append f w (32 ∷ spaced (v ∷ ws)) (a .0) (both (f 32) _ s (spaced-all f s (v ∷ ws) (a .1)))
 
 line-all : (f : ℕ → Bool) → ((b : ℕ) → isDigit b ≡ true → f b ≡ true) → f 32 ≡ true → (ns : List ℕ) → allOf f (spaced (map digits ns)) ≡ true
@@ -134,7 +135,7 @@ line-inLine ns = line-all inLine digit-inLine refl ns
 calm-comment : (l : List ℕ) → allOf noHash l ≡ true → isComment l ≡ false
 unfolding isComment allOf noHash
 calm-comment [] e = refl
-calm-comment (b ∷ l) e = not-true (eqb b 35) (parts (noHash b) _ e .0)
+calm-comment (b ∷ l) e = not-true (eqb b 35) (and-parts (noHash b) _ e .0)
 
 -- and is not skipped
 line-stands : (n : ℕ) (ns : List ℕ) → allBetween 1 9999 (n ∷ ns) ≡ true → skipped (spaced (map digits (n ∷ ns))) ≡ false
@@ -175,12 +176,12 @@ lineOf u = spaced (map digits (numbers u))
 
 between-more : (b c n : ℕ) → b ≤ c → between 1 b n ≡ true → between 1 c n ≡ true
 unfolding between
-between-more b c n h e = let a = parts (leb 1 n) _ e in both (leb 1 n) _ (a .0) (le-leb n c (let k = leb-true n b (a .1) in omega arith))
+between-more b c n h e = let a = and-parts (leb 1 n) _ e in both (leb 1 n) _ (a .0) (le-leb n c (let k = leb-true n b (a .1) in omega arith))
 
 all-more : (b c : ℕ) → b ≤ c → (ns : List ℕ) → allBetween 1 b ns ≡ true → allBetween 1 c ns ≡ true
 unfolding allBetween
 all-more b c h [] e = refl
-all-more b c h (n ∷ ns) e = let a = parts (between 1 b n) _ e in both (between 1 c n) _ (between-more b c n h (a .0)) (all-more b c h ns (a .1))
+all-more b c h (n ∷ ns) e = let a = and-parts (between 1 b n) _ e in both (between 1 c n) _ (between-more b c n h (a .0)) (all-more b c h ns (a .1))
 
 numbers-fine : (u : TaskRecord) → Plain u → allBetween 1 9999 (numbers u) ≡ true
 unfolding allBetween
@@ -215,9 +216,9 @@ spaced-more w v ws = length-append w (32 ∷ spaced (v ∷ ws))
 
 units-short : (n : ℕ) (ns : List ℕ) → allBetween 1 255 (n ∷ ns) ≡ true → length (spaced (map digits (n ∷ ns))) ≤ 3 + 4 * length ns
 unfolding allBetween spaced
-units-short n [] e = digits-within 3 n (let h = between-le 1 255 n (parts (between 1 255 n) _ e .0) .1 in omega arith)
+units-short n [] e = digits-within 3 n (let h = between-le 1 255 n (and-parts (between 1 255 n) _ e .0) .1 in omega arith)
 units-short n (m ∷ ns) e =
-    let a = parts (between 1 255 n) _ e in
+    let a = and-parts (between 1 255 n) _ e in
     let d = digits-within 3 n (let h = between-le 1 255 n (a .0) .1 in omega arith) in
     let ih = units-short m ns (a .1) in
     let s = spaced-more (digits n) (digits m) (map digits ns) in

@@ -9,11 +9,11 @@ use borrow.Author.Tests.{not-true, leb-true}
 use lib.Dec.{leb}
 use lib.ListN.{length, take, drop}
 use Rattle.rules.specs.Lists.{allOf}
-use Rattle.rules.proofs.Lists.{clash}
+use Rattle.rules.proofs.Lists.{clash, and-parts}
 use Rattle.list.specs.Text.{endsLine, partsFields, onto, lines, atGap, words}
 use Rattle.list.specs.Plain.{spaced}
 use Rattle.list.specs.Content.{inLine}
-use Rattle.list.proofs.Meaning.Lists.{decide, parts}
+use Rattle.list.proofs.Meaning.Lists.{decide}
 
 -- ── lines ───────────────────────────────────────────────────────────────────
 
@@ -22,7 +22,7 @@ pub lines-first : (l rest : List ℕ) → allOf inLine l ≡ true → lines (l +
 unfolding lines allOf endsLine onto inLine
 lines-first [] rest e = refl
 lines-first (b ∷ l) rest e =
-    let a = parts (inLine b) (allOf inLine l) e in
+    let a = and-parts (inLine b) (allOf inLine l) e in
     rw (not-true (endsLine b) (a .0), lines-first l rest (a .1)) refl
 
 -- only the empty text has no line
@@ -75,10 +75,10 @@ words-on b l e g = rw (e, g) refl
 pub words-first : (w rest : List ℕ) → 1 ≤ length w → allOf inWord w ≡ true → atGap rest ≡ true → words (w ++ rest) ≡ w ∷ words rest
 unfolding atGap allOf inWord onto
 words-first [] rest h e g = let z : ⊥ = omega arith in absurd z
-words-first (b ∷ []) rest h e g = let a = parts (inWord b) _ e in words-end b rest (not-true (partsFields b) (a .0)) g
+words-first (b ∷ []) rest h e g = let a = and-parts (inWord b) _ e in words-end b rest (not-true (partsFields b) (a .0)) g
 words-first (b ∷ (c ∷ w)) rest h e g =
-    let a = parts (inWord b) _ e in
-    let d = parts (inWord c) _ (a .1) in
+    let a = and-parts (inWord b) _ e in
+    let d = and-parts (inWord c) _ (a .1) in
     words-on b (c ∷ (w ++ rest)) (not-true (partsFields b) (a .0)) (not-true (partsFields c) (d .0)) ∙ ap (onto b) (words-first (c ∷ w) rest (omega arith) (a .1) g)
 
 -- a word: some bytes, none a space
@@ -87,12 +87,12 @@ isWord w = leb 1 (length w) && allOf inWord w
 
 word-first : (w rest : List ℕ) → isWord w ≡ true → atGap rest ≡ true → words (w ++ rest) ≡ w ∷ words rest
 unfolding isWord
-word-first w rest e g = let a = parts (leb 1 (length w)) _ e in words-first w rest (leb-true 1 (length w) (a .0)) (a .1) g
+word-first w rest e g = let a = and-parts (leb 1 (length w)) _ e in words-first w rest (leb-true 1 (length w) (a .0)) (a .1) g
 
 pub words-spaced : (ws : List (List ℕ)) → allOf isWord ws ≡ true → words (spaced ws) ≡ ws
 unfolding spaced allOf words atGap partsFields
 words-spaced [] e = refl
-words-spaced (w ∷ []) e = ap words (sym (append-nil w)) ∙ word-first w [] (parts (isWord w) _ e .0) refl
+words-spaced (w ∷ []) e = ap words (sym (append-nil w)) ∙ word-first w [] (and-parts (isWord w) _ e .0) refl
 words-spaced (w ∷ (v ∷ ws)) e =
-    let a = parts (isWord w) _ e in
+    let a = and-parts (isWord w) _ e in
     word-first w (32 ∷ spaced (v ∷ ws)) (a .0) refl ∙ ap (λ x. w ∷ x) (words-spaced (v ∷ ws) (a .1))
