@@ -1,4 +1,6 @@
 // Kiluvsaat at its boundary: the functions that C and Rust call, on byte strings and lent buffers. A refusal changes no lent byte.
+#![tactic(auto)]
+
 pub mod prepare;
 
 ghost use Rattle.std.specs.Prelude.{◌≡◌, ◌+◌, ◌*◌};

@@ -7,7 +7,7 @@ ghost use Rattle.list.specs.Inner.{no_fields, one_more, fields_of, Begun};
 use crate::text::{gap_size, parts_fields};
 
 // The numbers of a line's fields, zeros behind them. Where a word is no field or there are more than nine, `ok` is false and there are none.
-#[derive(Drop)]
+#[derive(Clone, Copy)]
 pub struct Fields {
     pub ok: bool,
     pub count: u8,

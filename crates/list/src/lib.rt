@@ -1,4 +1,6 @@
 // The reader of task lists.
+#![tactic(auto)]
+
 ghost use Rattle.std.specs.Prelude.{List, [], ◌∷◌, ◌++◌, ◌≡◌, ◌<◌};
 ghost use Rattle.rules.specs.Records.{TaskRecord};
 ghost use Rattle.rules.specs.States.{blank_set};
@@ -16,7 +18,7 @@ mod line;
 mod text;
 
 // The reply to a list: the refusal or 0, the refused line's number, where it starts and how long it is, and the set. On a refusal the set has no task and zeros throughout.
-#[derive(Drop)]
+#[derive(Clone, Copy)]
 pub struct Reading {
     pub refusal: u8,
     pub line: usize,
@@ -26,7 +28,7 @@ pub struct Reading {
 }
 
 // The set after a line, and the line's refusal or 0.
-#[derive(Drop)]
+#[derive(Clone, Copy)]
 struct After {
     refusal: u8,
     set: TaskSet,

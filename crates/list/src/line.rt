@@ -10,14 +10,14 @@ use tasks::Task;
 use tasks::set::task_refusal;
 
 // A pattern in bytes, zeros behind it. Where a number is above 255, `ok` is false and there are none.
-#[derive(Drop)]
+#[derive(Clone, Copy)]
 pub struct Units {
     pub ok: bool,
     pub pattern: [u8; 7],
 }
 
 // The verdict on a line: its refusal, or 0 and its task.
-#[derive(Drop)]
+#[derive(Clone, Copy)]
 pub struct Verdict {
     pub refusal: u8,
     pub task: Task,

@@ -1,4 +1,6 @@
 // Reads a task list from standard input, writes the plan to standard output, and what is wrong with a refused list to standard error.
+#![tactic(auto)]
+
 use libc::{STDERR_FILENO, STDIN_FILENO, STDOUT_FILENO};
 
 fn main() {

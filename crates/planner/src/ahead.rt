@@ -10,7 +10,7 @@ use tasks::Standing;
 
 // One task: whether its progress rises unchosen, whether it ends the slot well unchosen, its progress in the next slot unchosen, and one more
 // than that chosen (0: it may not be chosen, or does not end the slot well).
-#[derive(Drop)]
+#[derive(Clone, Copy)]
 pub struct Ways {
     pub rises: bool,
     pub well: bool,
@@ -87,7 +87,7 @@ fn claim_of(urgent: u16, well: bool, i: u16) -> u16
 }
 
 // The mark of the tasks that rise unchosen, and the task that has to be chosen: 256 for none, 257 for more than one.
-#[derive(Drop)]
+#[derive(Clone, Copy)]
 pub struct Outlook {
     pub waits: u8,
     pub urgent: u16,

@@ -1,4 +1,6 @@
 // The planner: the first schedule, or an exact no.
+#![tactic(auto)]
+
 pub mod ahead;
 pub mod area;
 pub mod mark;
@@ -17,7 +19,7 @@ use tasks::TaskSet;
 use tasks::position::live;
 use tasks::set::{judge, tasks_in};
 
-#[derive(Drop)]
+#[derive(Clone, Copy)]
 pub enum Word {
     Schedule,
     Infeasible,
@@ -25,7 +27,7 @@ pub enum Word {
 }
 
 // A refusal is its number alone; another answer is a word and a count of dead positions.
-#[derive(Drop)]
+#[derive(Clone, Copy)]
 pub enum Answer {
     Refused(u8),
     Answered(Word, usize),

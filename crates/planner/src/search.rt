@@ -12,7 +12,7 @@ use crate::area::{put, seen};
 use crate::mark::{choice_from, take_back};
 
 // The position that the list under trial leads to, the choice to try behind it (256: all are tried), and the number of records.
-#[derive(Drop)]
+#[derive(Clone, Copy)]
 pub struct Search {
     pub slot: u16,
     pub progress: [u16; 8],
@@ -20,7 +20,7 @@ pub struct Search {
     pub recorded: usize,
 }
 
-#[derive(Drop)]
+#[derive(Clone, Copy)]
 pub enum Status {
     Going,
     Found,
@@ -28,7 +28,7 @@ pub enum Status {
     NoRoom,
 }
 
-#[derive(Drop)]
+#[derive(Clone, Copy)]
 pub struct Stepped {
     pub status: Status,
     pub search: Search,
@@ -206,7 +206,7 @@ fn step(
 }
 
 // How a search ended, with the number of records.
-#[derive(Drop)]
+#[derive(Clone, Copy)]
 pub struct Ended {
     pub word: Word,
     pub recorded: usize,

@@ -1,4 +1,6 @@
 // The player: it follows a table slot by slot. A state goes in by value and comes back by value.
+#![tactic(auto)]
+
 use tasks::TaskSet;
 use tasks::set::judge;
 
@@ -21,7 +23,7 @@ use round::tick_refused;
 use strings::tick_string;
 
 // Why a job was stopped.
-#[derive(Drop)]
+#[derive(Clone, Copy)]
 pub enum Cause {
     Overrun,
     Late,
@@ -29,7 +31,7 @@ pub enum Cause {
 }
 
 // How a job stands.
-#[derive(Drop)]
+#[derive(Clone, Copy)]
 pub enum Stand {
     Ready,
     Waiting,
@@ -38,7 +40,7 @@ pub enum Stand {
 }
 
 // A task's job: how it stands, its step from 0, and the slots given in that step. Parts not in use are zero.
-#[derive(Drop)]
+#[derive(Clone, Copy)]
 pub struct Job {
     pub stand: Stand,
     pub step: u8,
@@ -46,7 +48,7 @@ pub struct Job {
 }
 
 // The player's state: the task set, the slot, the planned progress and the job of each task, and who ran last (255: nobody).
-#[derive(Drop)]
+#[derive(Clone, Copy)]
 pub struct State {
     pub set: TaskSet,
     pub slot: u16,
@@ -56,7 +58,7 @@ pub struct State {
 }
 
 // The reply to a start. On a refusal the state is blank.
-#[derive(Drop)]
+#[derive(Clone, Copy)]
 pub struct Started {
     pub refusal: u8,
     pub state: State,
@@ -64,7 +66,7 @@ pub struct Started {
 
 // The reply to a tick: who runs (255: nobody), a fault byte for each task (0 none, 1 overrun, 2 late, 3 false), and the new state.
 // On a refusal nobody runs, no fault is shown, and the state is the one handed in.
-#[derive(Drop)]
+#[derive(Clone, Copy)]
 pub struct Ticked {
     pub refusal: u8,
     pub runner: u8,

@@ -17,7 +17,7 @@ use tasks::set::multiple;
 // ── a pattern ───────────────────────────────────────────────────────────────
 
 // What a walk along a pattern finds: its length, the place at which progress stands, and whether every entry is 1 or more.
-#[derive(Drop)]
+#[derive(Clone, Copy)]
 pub struct Walked {
     pub length: u16,
     pub place: usize,
@@ -211,7 +211,7 @@ fn end_of(length: u16, place: usize, chosen: bool, progress: u16) -> u16
 }
 
 // What a look at one task finds: whether it has its form, and then whether the slot's choice suits it, and its planned progress in the next slot.
-#[derive(Drop)]
+#[derive(Clone, Copy)]
 pub struct Seen {
     pub fits: bool,
     pub well: bool,
@@ -290,7 +290,7 @@ fn see_task(state: &[u8], i: usize, slot: u16, entry: u8) -> Seen
 // ── all tasks ───────────────────────────────────────────────────────────────
 
 // What a look at all tasks finds: whether each has its form, and whether the slot's choice suits each.
-#[derive(Drop)]
+#[derive(Clone, Copy)]
 pub struct Looked {
     pub fits: bool,
     pub well: bool,
@@ -407,7 +407,7 @@ fn blank_rest(state: &[u8], n: usize) -> bool
 // ── the whole ───────────────────────────────────────────────────────────────
 
 // What is found of a state: whether it has the form, and then its set's hyper-period, and whether the slot's entry leads on.
-#[derive(Drop)]
+#[derive(Clone, Copy)]
 pub struct Examined {
     pub formed: bool,
     pub hyper: u16,

@@ -216,7 +216,7 @@ fn late_fault(late: bool) -> u8
 }
 
 // What a task's turn gives: its job, whether it runs in this slot, and its fault byte.
-#[derive(Drop)]
+#[derive(Clone, Copy)]
 pub struct TurnTaken {
     pub job: Job,
     pub runs: bool,

@@ -1,4 +1,6 @@
 // What the program `plan` writes, made on slices.
+#![tactic(auto)]
+
 ghost use Rattle.std.specs.Prelude.{◌≤◌};
 ghost use Rattle.planner.specs.Views.{answer_of};
 ghost use Rattle.report.specs.Put.{Put, PutCut};

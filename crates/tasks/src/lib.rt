@@ -1,10 +1,12 @@
 // The task set in code: its structs, its refusal, and the arithmetic of positions. Every public function takes any values and has a defined answer.
+#![tactic(auto)]
+
 pub mod pattern;
 pub mod position;
 pub mod set;
 
 // A task: period T, deadline D, m steps, and the pattern C E C .. of which the first 2m - 1 entries are in use.
-#[derive(Drop)]
+#[derive(Clone, Copy)]
 pub struct Task {
     pub period: u16,
     pub deadline: u16,
@@ -13,14 +15,14 @@ pub struct Task {
 }
 
 // A set of tasks, of which the first `count` are in use.
-#[derive(Drop)]
+#[derive(Clone, Copy)]
 pub struct TaskSet {
     pub count: u8,
     pub tasks: [Task; 8],
 }
 
 // How progress stands in a pattern.
-#[derive(Drop)]
+#[derive(Clone, Copy)]
 pub enum Standing {
     Ready,
     Waiting,

@@ -160,7 +160,7 @@ fn starts_well(t: Task, length: u16, well: bool, end: u16) -> bool
 }
 
 // What a slot does to one task: whether it ends the slot well and begins the next one live, and its progress then.
-#[derive(Drop)]
+#[derive(Clone, Copy)]
 pub struct Passed {
     pub well: bool,
     pub progress: u16,

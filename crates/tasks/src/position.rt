@@ -61,7 +61,7 @@ pub fn both(a: bool, b: bool) -> bool
 }
 
 // Where a choice leads: whether it is an allowed choice to a live position, and the progress after it.
-#[derive(Drop)]
+#[derive(Clone, Copy)]
 pub struct Onward {
     pub legal: bool,
     pub progress: [u16; 8],

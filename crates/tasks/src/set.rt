@@ -124,7 +124,7 @@ fn first_refusal(s: TaskSet) -> u8
 }
 
 // The judgement on a set: its refusal, 0 if it is admissible, and its hyper-period with its bound.
-#[derive(Drop)]
+#[derive(Clone, Copy)]
 pub struct Judged {
     pub refusal: u8,
     pub hyper: u16,

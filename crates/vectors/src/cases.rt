@@ -99,7 +99,7 @@ fn planned(set: TaskSet, table: &mut [u8], area: &mut [u16]) {
 }
 
 // The number behind the space at `at`, and where the line goes on.
-#[derive(Drop)]
+#[derive(Clone, Copy)]
 struct Number {
     value: usize,
     next: usize,

@@ -1,5 +1,7 @@
 // Runs a script of examples through the reader, the planner and the player. The script's form is told at its head.
 // Each case is written as it stands, then its reply, each line of it behind two spaces.
+#![tactic(auto)]
+
 use crate::read::{find, unescape};
 use libc::STDIN_FILENO;
 

@@ -17,7 +17,7 @@ pub fn find(line: &[u8], from: usize, byte: u8) -> usize
     at
 }
 
-#[derive(Drop)]
+#[derive(Clone, Copy)]
 pub struct Field {
     pub start: usize,
     pub end: usize,
@@ -72,7 +72,7 @@ fn hexadecimal(sign: u8) -> u8
 }
 
 // A byte of a list, so many times, and where the script goes on.
-#[derive(Drop)]
+#[derive(Clone, Copy)]
 pub struct Piece {
     pub byte: u8,
     pub times: usize,
@@ -159,7 +159,7 @@ fn put(list: &mut [u8], from: usize, byte: u8, times: usize) -> usize
 }
 
 // The size of a list, and where the script goes on.
-#[derive(Drop)]
+#[derive(Clone, Copy)]
 pub struct Unescaped {
     pub size: usize,
     pub next: usize,

@@ -1,5 +1,5 @@
 -- What the invariant gives where a search ends, and its measure.
-use mathlib.Core.Path.{◌≡◌, refl, sym, ap, ◌∙◌}
+use mathlib.Core.Path.{◌≡◌, refl, sym, ap, ◌∙◌, subst}
 use mathlib.Core.Logic.{◌⊎◌, inl, inr}
 use mathlib.Core.List.{List, [], ◌∷◌, ◌++◌, append-nil, append_assoc}
 use Prim.Native.Nat.{ℕ, suc, ◌+◌, ◌*◌, ◌-◌, ◌≤◌, ◌<◌}
@@ -85,7 +85,7 @@ module _ (s : List Task) (fit : Fit s) (begun : T (live_position s (start s))) w
       all = λ x C.
           let a : x.slot ≡ length C.by = ap (λ y. y.slot) (sym C.reached) ∙ reach-slot s C.by in
           let b = C.dead.below in
-          rw C.reached at (on-done s small [] c R I tried some-slot C.by C.by_live.after (omega arith));
+          subst (λ (y : Position). In y (start s ∷ R)) C.reached (on-done s small [] c R I tried some-slot C.by C.by_live.after (omega arith));
     }
       where
         only' : (x : Position) → In x (start s ∷ R) → Counted s x

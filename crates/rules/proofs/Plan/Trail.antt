@@ -1,5 +1,5 @@
 -- The invariant of a search with a trail of choices and a list of recorded dead positions.
-use mathlib.Core.Path.{◌≡◌, refl, sym, ap, ap₂, ◌∙◌}
+use mathlib.Core.Path.{◌≡◌, refl, sym, ap, ap₂, ◌∙◌, subst}
 use mathlib.Core.Logic.{◌⊎◌, inl, inr}
 use mathlib.Core.Bool.{true}
 use mathlib.Core.List.{List, [], ◌∷◌, ◌++◌, append_assoc, append-nil}
@@ -290,7 +290,7 @@ module _ (s : List Task) (small : length s ≤ idle) where
     all-stuck x (inr h) g t q = I.stuck x h g t q
 
     all_closed : (x : Position) → In x (here ∷ R) → (g : List ℕ) → T (live_from s x g) → x.slot + length g < hyper s → In (run s x g) (here ∷ R)
-    all_closed x (inl e) g t q = rw e (here-closed g (rw e at t) (rw e at q))
+    all_closed x (inl e) g t q = subst (λ (y : Position). In (run s y g) (here ∷ R)) (sym e) (here-closed g (rw e at t) (rw e at q))
     all_closed x (inr h) g t q = inr (I.closed x h g t q)
 
     -- a list that goes on from v leads to a record
@@ -324,7 +324,7 @@ module _ (s : List Task) (small : length s ≤ idle) where
       done' w t l (inl a) = inr (I.done w t l (ahead_more w (v ++ d ∷ []) (c ∷ []) a))
       done' w t l (inr e) =
           let q = e.1 ∙ joined e.0 in
-          rw q (on-done (v ++ d ∷ []) c R I tried short e.0 (rw q at t) (rw q at l))
+          subst (λ (u : List ℕ). In (run s (start s) u) (run s (start s) (v ++ d ∷ []) ∷ R)) (sym q) (on-done (v ++ d ∷ []) c R I tried short e.0 (rw q at t) (rw q at l))
 
       none' : (w : List ℕ) → T (live_from s (start s) w) → length w ≡ hyper s → ahead w (v ++ d ∷ []) ⊎ ((w' : List ℕ) × (w ≡ v ++ d ∷ w')) → ⊥
       none' w t l (inl a) = I.none w t l (ahead_more w (v ++ d ∷ []) (c ∷ []) a)
