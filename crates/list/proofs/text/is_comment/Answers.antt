@@ -8,8 +8,7 @@ use borrow.Author.Rules.{rules}
 use lib.Dec.{eqb}
 use lib.ListN.{length, get_or}
 use Rattle.list.specs.Reading.{is_comment}
-use Rattle.list.proofs.text.is_comment.Statement.{statement}
-use Rattle.list.proofs.text.is_comment.Tie as tie
+use Rattle.list.proofs.text.is_comment.Goals as goal
 
 empty : (l : List ℕ) → length l ≡ 0 → false ≡ is_comment l
 unfolding is_comment
@@ -21,14 +20,8 @@ unfolding is_comment
 first [] n = absurd (n refl)
 first (b ∷ l) n = refl
 
-returns : tie.Need-returns
-returns c = empty c.before.args.line.now c.if1.true
+pub returns-then-line-eq0 : goal.returns-then-line-eq0
+returns-then-line-eq0 c = empty c.args.line.now c.if-line-eq0.true
 
-shared-slice-read-result : tie.Need-shared-slice-read-result
-shared-slice-read-result c = search rules
-
-returns-2 : tie.Need-returns-2
-returns-2 c = first c.before.before.args.line.now c.before.if1.false
-
-pub is-comment-spec : {M : Type 1} → statement M
-is-comment-spec = tie.close (tie.spec returns shared-slice-read-result returns-2)
+pub returns : goal.returns
+returns c = first c.args.line.now c.if-line-eq0.false
