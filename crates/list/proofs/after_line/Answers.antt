@@ -2,7 +2,6 @@
 use mathlib.Core.List.{List, [], ◌∷◌, ◌++◌}
 use mathlib.Core.Path.{sym, ap, ◌∙◌}
 use native.Mathlib.Omega.{arith}
-use borrow.Author.Rules.{rules}
 use Rattle.rules.specs.Records.{TaskRecord}
 use Rattle.list.specs.Reading.{accepted}
 use Rattle.list.proofs.Sets.{set-count, line-skipped, tasks-kept, line-ninth, line-judged, tasks-more}
@@ -43,5 +42,5 @@ returns-clause-good c =
     let a = c.args in
     let v = c.line_task-v in
     let h = sym c.is_skipped.ensures ∙ c.if-is_skipped.false in (λ rs e z.
-          c.with_task-more.ensures rs e ∙ ap (λ (t : TaskRecord). (accepted (rs ++ t ∷ [])).set) (v.ensures.good c.if-n-ne0.false)
-          ∙ ap (λ (rs : List TaskRecord). (accepted rs).set) (sym (tasks-more rs a.line.now h)))
+    c.with_task-more.ensures rs e ∙ ap (λ (t : TaskRecord). (accepted (rs ++ t ∷ [])).set) (v.ensures.good c.if-n-ne0.false)
+    ∙ ap (λ (rs : List TaskRecord). (accepted rs).set) (sym (tasks-more rs a.line.now h)))

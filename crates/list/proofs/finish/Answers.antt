@@ -1,6 +1,5 @@
 -- `list::finish` is the end of a list's reading. Assumes nothing.
 use mathlib.Core.Path.{◌∙◌}
-use borrow.Author.Rules.{rules}
 use Rattle.list.proofs.Sets.{end_none, end-over, end-good}
 use Rattle.list.proofs.finish.Goals as goal
 

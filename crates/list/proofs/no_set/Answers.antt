@@ -1,5 +1,4 @@
 -- `list::no_set` is the set with no task. Assumes nothing.
-use borrow.Author.Rules.{rules}
 use Rattle.rules.specs.Lists.{tabulate}
 use Rattle.tasks.specs.Views.{record_of}
 use Rattle.rules.specs.States.{blank_set}

@@ -1,11 +1,8 @@
 -- `list::read` is the reading of the list. The invariant: the set has read some tasks, and the lines from `start` on decide. Assumes nothing.
 use mathlib.Core.Path.{sym, ◌∙◌}
-use Prim.Native.Nat.{◌+◌, ◌-◌}
 use native.Mathlib.Omega.{arith}
-use borrow.Author.Rules.{rules}
-use lib.ListN.{length}
 use Rattle.list.proofs.Lines.{line-fits}
-use Rattle.list.proofs.ByLines.{Progress, progress-begins, progress-stops, progress-passes, list-long, list-ends}
+use Rattle.list.proofs.ByLines.{progress-begins, progress-stops, progress-passes, list-long, list-ends}
 use Rattle.list.proofs.read.Goals as goal
 
 pub returns-then-list-gt4096 : goal.returns-then-list-gt4096

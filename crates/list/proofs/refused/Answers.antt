@@ -1,5 +1,4 @@
 -- `list::refused` is the definition's reply. Assumes nothing.
-use borrow.Author.Rules.{rules}
 use Rattle.list.specs.Reading.{reply_of, refused_line}
 use Rattle.list.proofs.refused.Goals as goal
 

@@ -1,6 +1,5 @@
 -- `list::refused_line` is the part of the list that the reading shows, and lies in it. Assumes nothing.
 use native.Mathlib.Omega.{arith}
-use borrow.Author.Rules.{rules}
 use Rattle.list.proofs.ByLines.{reply-within, reply-shows}
 use Rattle.list.proofs.refused_line.Goals as goal
 

@@ -1,7 +1,6 @@
 -- `list::fields::line_fields` holds the fields of the line's words. Assumes nothing.
 use mathlib.Core.List.{[]}
 use mathlib.Core.Path.{refl}
-use borrow.Author.Rules.{rules}
 use Rattle.rules.specs.Lists.{all_of, padded}
 use Rattle.list.specs.Inner.{fields_of}
 use Rattle.list.proofs.fields.line_fields.Goals as goal

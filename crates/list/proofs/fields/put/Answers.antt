@@ -1,6 +1,5 @@
 -- `list::fields::put` stores one number more. Assumes nothing.
 use mathlib.Core.Path.{refl}
-use borrow.Author.Rules.{rules}
 use Rattle.list.specs.Inner.{one_more}
 use Rattle.list.proofs.fields.put.Goals as goal
 

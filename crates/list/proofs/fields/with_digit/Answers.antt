@@ -1,5 +1,4 @@
 -- `list::fields::with_digit` fits and is the number. Assumes nothing.
-use borrow.Author.Rules.{rules}
 use Rattle.list.proofs.Words.{digit_low}
 use Rattle.list.proofs.fields.with_digit.Goals as goal
 

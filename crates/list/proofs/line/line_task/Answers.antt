@@ -1,7 +1,6 @@
 -- `list::line::line_task` gives the line's refusal, and its task where it is 0. Assumes nothing.
 use mathlib.Core.Path.{sym, ◌∙◌, ap}
 use native.Mathlib.Omega.{arith}
-use borrow.Author.Rules.{rules}
 use borrow.Author.Tests.{not-true, not-false}
 use Rattle.list.proofs.OneLine.{refuse-words, refuse-count, count-right, refuse-units, task-is, task-refused}
 use mathlib.Core.Bool.{not}

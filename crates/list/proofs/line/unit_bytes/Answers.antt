@@ -1,12 +1,10 @@
 -- `list::line::unit_bytes` is the units as bytes. The invariant: those before place i are stored, and the rest decides. Assumes nothing.
-use mathlib.Core.Path.{◌≡◌, refl, ◌∙◌}
-use Prim.Native.Nat.{◌-◌, ◌≤◌}
+use mathlib.Core.Path.{refl, ◌∙◌}
+use Prim.Native.Nat.{◌-◌}
 use native.Mathlib.Omega.{arith}
 use borrow.Author.Rules.{rules}
-use lib.ListN.{length, take, drop}
 use lib.Seq.{take_all}
 use Rattle.rules.specs.Lists.{padded}
-use Rattle.rules.specs.Records.{all_between}
 use Rattle.list.proofs.Pattern.{units_in, units-many, units-end, units-on, units-off, unit_store, units-good, units-bad}
 use Rattle.list.proofs.line.unit_bytes.Goals as goal
 

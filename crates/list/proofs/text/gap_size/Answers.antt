@@ -1,11 +1,8 @@
 -- `list::text::gap_size` passes what parts fields. The invariant: the words are those from `i` on. Assumes nothing.
-use mathlib.Core.Path.{◌≡◌, refl, sym, ◌∙◌, ap}
-use Prim.Native.Nat.{◌-◌, ◌≤◌}
+use mathlib.Core.Path.{refl, sym, ◌∙◌, ap}
 use native.Mathlib.Omega.{arith}
 use borrow.Author.Rules.{rules}
 use borrow.Author.Tests.{not-true, not-false}
-use lib.ListN.{length, drop}
-use Rattle.list.specs.Text.{words}
 use Rattle.list.proofs.Words.{words-on}
 use mathlib.Core.Bool.{not}
 use Rattle.list.proofs.text.gap_size.Goals as goal

@@ -1,12 +1,8 @@
 -- `list::text::gap_size` passes what parts fields. The invariant: the words are those from `i` on. Assumes nothing.
-use mathlib.Core.Path.{◌≡◌, refl, sym, ◌∙◌}
+use mathlib.Core.Path.{◌≡◌}
 use Prim.Native.Nat.{◌-◌, ◌≤◌}
-use native.Mathlib.Omega.{arith}
-use borrow.Author.Rules.{rules}
-use borrow.Author.Tests.{not-true, not-false}
 use lib.ListN.{length, drop}
 use Rattle.list.specs.Text.{words}
-use Rattle.list.proofs.Words.{words-on}
 use Rattle.list.proofs.text.gap_size.Given as goal
 
 abbrev pub invariant-loop-i : goal.invariant-loop-i

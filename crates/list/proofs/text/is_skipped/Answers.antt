@@ -1,6 +1,5 @@
 -- `list::text::is_skipped` is the definition's test: a comment, or a gap to the line's end. Assumes nothing.
 use mathlib.Core.Path.{sym, ◌∙◌}
-use borrow.Author.Rules.{rules}
 use Rattle.list.proofs.Words.{commented, by-gap}
 use Rattle.list.proofs.text.is_skipped.Goals as goal
 

@@ -1,10 +1,8 @@
 -- `list::text::line_size` is the length of the first line from `start` on. The invariant: `i` is that far into it. Assumes nothing.
-use mathlib.Core.Path.{◌≡◌, sym, ◌∙◌}
-use Prim.Native.Nat.{◌+◌, ◌-◌, ◌≤◌}
+use mathlib.Core.Path.{sym, ◌∙◌}
 use native.Mathlib.Omega.{arith}
 use borrow.Author.Rules.{rules}
-use lib.ListN.{length, drop}
-use Rattle.list.proofs.Lines.{first_line, at-end, at-feed, at_other}
+use Rattle.list.proofs.Lines.{at-end, at-feed, at_other}
 use Rattle.list.proofs.text.line_size.Goals as goal
 
 pub loop-i-init : goal.loop-i-init
