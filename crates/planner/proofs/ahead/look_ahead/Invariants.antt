@@ -1,8 +1,5 @@
 -- `planner::ahead::look_ahead`: each task's ways, from the last task down. Assumes nothing.
-use borrow.Author.Rules.{rules}
-use Prim.Native.Nat.{◌-◌}
-use native.Mathlib.Omega.{arith}
-use Rattle.planner.proofs.Outlooks.{Looked, looked-start, looked-step, looked-end}
+use Rattle.planner.proofs.Outlooks.{Looked}
 use Rattle.planner.proofs.ahead.look_ahead.Given as goal
 
 abbrev pub invariant-loop-i : goal.invariant-loop-i

@@ -1,5 +1,4 @@
 -- `planner::ahead::ways_of` is what a slot does to one task, chosen and not, by how its progress stands. Assumes nothing.
-use borrow.Author.Rules.{rules}
 use native.Mathlib.Omega.{arith}
 use Rattle.planner.proofs.Outlooks.{below-ready, below_waiting, told-ready, told-waiting, told-done}
 use Rattle.planner.proofs.ahead.ways_of.Goals as goal

@@ -3,9 +3,9 @@ use borrow.Author.Rules.{rules}
 use borrow.Author.Fill.{fill_more}
 use mathlib.Core.Path.{◌≡◌, ap, ◌∙◌}
 use mathlib.Core.List.{List, ◌++◌}
-use Prim.Native.Nat.{ℕ, ◌-◌, ◌≤◌}
+use Prim.Native.Nat.{ℕ}
 use native.Mathlib.Omega.{arith}
-use lib.ListN.{length, replicate, drop, set}
+use lib.ListN.{replicate, drop, set}
 use Rattle.planner.proofs.area.fill.Goals as goal
 
 pub loop-i-preserved : goal.loop-i-preserved

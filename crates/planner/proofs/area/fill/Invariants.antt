@@ -1,11 +1,8 @@
 -- `planner::area::fill`: the first h bytes become 255, the rest is kept. Assumes nothing.
-use borrow.Author.Rules.{rules}
-use borrow.Author.Fill.{fill_more}
-use mathlib.Core.Path.{◌≡◌, ap, ◌∙◌}
-use mathlib.Core.List.{List, ◌++◌}
-use Prim.Native.Nat.{ℕ, ◌-◌, ◌≤◌}
-use native.Mathlib.Omega.{arith}
-use lib.ListN.{length, replicate, drop, set}
+use mathlib.Core.Path.{◌≡◌}
+use mathlib.Core.List.{◌++◌}
+use Prim.Native.Nat.{◌-◌, ◌≤◌}
+use lib.ListN.{length, replicate, drop}
 use Rattle.planner.proofs.area.fill.Given as goal
 
 abbrev pub invariant-loop-i : goal.invariant-loop-i

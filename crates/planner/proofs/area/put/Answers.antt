@@ -1,9 +1,6 @@
 -- `planner::area::put`: a record behind the first ones, the rest kept. Assumes nothing.
 use borrow.Author.Rules.{rules}
-use mathlib.Core.Path.{◌∙◌}
-use Prim.Native.Nat.{◌-◌}
-use lib.ListN.{length-set}
-use Rattle.planner.proofs.Records.{Put, put-start, put_step, put-end}
+use Rattle.planner.proofs.Records.{put-start, put_step, put-end}
 use Rattle.planner.proofs.area.put.Goals as goal
 
 pub loop-j-init : goal.loop-j-init

@@ -1,7 +1,6 @@
 -- `planner::area::same_record`: the record at a place, compared number by number. Assumes nothing.
 use borrow.Author.Rules.{rules}
-use Prim.Native.Nat.{◌-◌}
-use Rattle.planner.proofs.Records.{Alike, alike-never, alike-start, alike-off, alike-step, alike_end}
+use Rattle.planner.proofs.Records.{alike-never, alike-start, alike-off, alike-step, alike_end}
 use Rattle.planner.proofs.area.same_record.Goals as goal
 
 pub returns-then-area-at : goal.returns-then-area-at

@@ -1,7 +1,6 @@
 -- `planner::area::same_record`: the record at a place, compared number by number. Assumes nothing.
-use borrow.Author.Rules.{rules}
 use Prim.Native.Nat.{◌-◌}
-use Rattle.planner.proofs.Records.{Alike, alike-never, alike-start, alike-off, alike-step, alike_end}
+use Rattle.planner.proofs.Records.{Alike}
 use Rattle.planner.proofs.area.same_record.Given as goal
 
 abbrev pub invariant-loop-j : goal.invariant-loop-j

@@ -1,10 +1,9 @@
 -- `planner::area::seen`: whether a record is among the first, from the newest to the oldest. The place is a multiple of n + 1. Assumes nothing.
-use borrow.Author.Rules.{rules}
 use mathlib.Core.List.{◌∷◌}
 use mathlib.Core.Path.{◌≡◌}
 use Prim.Native.Nat.{◌+◌}
 use lib.ListN.{take}
-use Rattle.planner.proofs.Records.{Left, left-start, left-wide, left-fits, left_step, left-found, left_end}
+use Rattle.planner.proofs.Records.{Left}
 use Rattle.planner.proofs.area.seen.Given as goal
 
 abbrev pub invariant-loop-at : goal.invariant-loop-at

@@ -1,8 +1,6 @@
 -- `planner::mark::choice_from`: the first ready task whose bit is set, or idle. Assumes nothing.
 use borrow.Author.Rules.{rules}
-use Prim.Native.Nat.{◌-◌}
-use Rattle.planner.proofs.Places.{laid-row}
-use Rattle.planner.proofs.Loops.{Looked, looked-start, looked-step, looked-found, looked-end}
+use Rattle.planner.proofs.Loops.{looked-start, looked-step, looked-found, looked-end}
 use Rattle.planner.proofs.mark.choice_from.Goals as goal
 
 pub loop-i-init : goal.loop-i-init

@@ -1,11 +1,7 @@
 -- `planner::mark::go_along`: the progress after a slot, task by task, with the bit of each. Assumes nothing.
 use borrow.Author.Rules.{rules}
-use mathlib.Core.Path.{◌≡◌, refl, ◌∙◌}
-use Prim.Native.Nat.{◌-◌}
-use lib.ListN.{take}
-use Rattle.planner.specs.Rows.{row_tasks}
-use Rattle.planner.proofs.Places.{laid-row, laid-some}
-use Rattle.planner.proofs.Loops.{Filled, filled-start, Kept, kept-start, kept_step, kept-modest, halved, halved-next, forth, forth-step, forth-end}
+use mathlib.Core.Path.{refl}
+use Rattle.planner.proofs.Loops.{filled-start, kept-start, kept_step, kept-modest, halved, halved-next, forth-step, forth-end}
 use Rattle.planner.proofs.mark.go_along.Goals as goal
 
 pub loop-i-init : goal.loop-i-init

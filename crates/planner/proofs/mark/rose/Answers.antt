@@ -1,8 +1,7 @@
 -- `planner::mark::rose`: the lowest bit is set and the task was ready. Assumes nothing.
-use borrow.Author.Rules.{rules}
 use Rattle.rules.specs.Tasks.{is_ready}
 use Rattle.tasks.specs.Views.{standing_of}
-use Rattle.planner.proofs.Loops.{rose-not, rose-if}
+use Rattle.planner.proofs.Loops.{rose-if}
 use Rattle.planner.proofs.mark.rose.Goals as goal
 
 pub returns-in-Ready : goal.returns-in-Ready

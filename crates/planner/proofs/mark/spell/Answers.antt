@@ -1,7 +1,6 @@
 -- `planner::mark::spell`: marks into choices, slot by slot, with the position. Assumes nothing.
 use borrow.Author.Rules.{rules}
-use Prim.Native.Nat.{◌-◌}
-use Rattle.planner.proofs.Loops.{Spelling, spelling-start, spelling-modest, spelling-step, spelling-end}
+use Rattle.planner.proofs.Loops.{spelling-start, spelling-modest, spelling-step, spelling-end}
 use Rattle.planner.proofs.mark.spell.Goals as goal
 
 pub loop-slot-init : goal.loop-slot-init

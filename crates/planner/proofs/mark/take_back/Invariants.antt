@@ -1,11 +1,7 @@
 -- `planner::mark::take_back`: the progress before a slot, task by task, with the bit of each. Assumes nothing.
-use borrow.Author.Rules.{rules}
-use mathlib.Core.Path.{◌≡◌, refl, ◌∙◌}
+use mathlib.Core.Path.{◌≡◌}
 use Prim.Native.Nat.{◌-◌}
-use lib.ListN.{take}
-use Rattle.planner.specs.Rows.{row_tasks}
-use Rattle.planner.proofs.Places.{laid-row}
-use Rattle.planner.proofs.Loops.{Filled, filled-start, halved, halved-next, back, back_step, back_end}
+use Rattle.planner.proofs.Loops.{Filled, halved, back}
 use Rattle.planner.proofs.mark.take_back.Given as goal
 
 abbrev pub invariant-loop-i : goal.invariant-loop-i

@@ -1,5 +1,4 @@
 -- `planner::rows::begun_from` is 0 where a job starts again, and the progress elsewhere. Assumes nothing.
-use borrow.Author.Rules.{rules}
 use Rattle.planner.proofs.OneRow.{begins-anew, goes-along}
 use Rattle.planner.proofs.rows.begun_from.Goals as goal
 

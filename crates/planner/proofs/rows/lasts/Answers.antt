@@ -1,5 +1,4 @@
 -- `planner::rows::lasts` is whether the task of a row is in time. Assumes nothing.
-use borrow.Author.Rules.{rules}
 use Rattle.planner.proofs.OneRow.{lasts-done, lasts-left}
 use Rattle.planner.proofs.rows.lasts.Goals as goal
 

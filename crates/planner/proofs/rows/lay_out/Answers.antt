@@ -1,10 +1,6 @@
 -- `planner::rows::lay_out` writes the rows of the tasks in use. The invariant: the rows before place i are written. The measure is the rows left. Assumes nothing.
 use borrow.Author.Rules.{rules}
-use mathlib.Core.Path.{◌≡◌}
-use Prim.Native.Nat.{◌-◌}
-use lib.ListN.{length}
-use Rattle.tasks.specs.Views.{set_of}
-use Rattle.planner.proofs.OneRow.{Laying, laying-start, laying-step, laying-end}
+use Rattle.planner.proofs.OneRow.{laying-start, laying-step, laying-end}
 use Rattle.planner.proofs.rows.lay_out.Goals as goal
 
 pub loop-i-init : goal.loop-i-init

@@ -1,7 +1,6 @@
 -- `planner::rows::put_entries` writes seven entries. The invariant: those before place i are written. The measure is what is left. Assumes nothing.
 use borrow.Author.Rules.{rules}
-use Prim.Native.Nat.{◌-◌}
-use Rattle.planner.proofs.OneRow.{Entries, entries-start, entries-step, entries-end}
+use Rattle.planner.proofs.OneRow.{entries-start, entries-step, entries-end}
 use Rattle.planner.proofs.rows.put_entries.Goals as goal
 
 pub loop-i-init : goal.loop-i-init

@@ -1,7 +1,6 @@
 -- `planner::rows::put_entries` writes seven entries. The invariant: those before place i are written. The measure is what is left. Assumes nothing.
-use borrow.Author.Rules.{rules}
 use Prim.Native.Nat.{◌-◌}
-use Rattle.planner.proofs.OneRow.{Entries, entries-start, entries-step, entries-end}
+use Rattle.planner.proofs.OneRow.{Entries}
 use Rattle.planner.proofs.rows.put_entries.Given as goal
 
 abbrev pub invariant-loop-i : goal.invariant-loop-i

@@ -1,10 +1,7 @@
 -- `planner::rows::put_row` writes the row of a task. Assumes nothing.
-use borrow.Author.Rules.{rules}
 use native.Mathlib.Omega.{arith}
-use lib.ListN.{length-set}
 use Rattle.tasks.proofs.OneTask.{pattern-short}
-use Rattle.planner.specs.Rows.{row_of}
-use Rattle.planner.proofs.OneRow.{row_put, row_kept}
+use Rattle.planner.proofs.OneRow.{row_put}
 use Rattle.planner.proofs.rows.put_row.Goals as goal
 
 pub overflow_cast-rows : goal.overflow_cast-rows

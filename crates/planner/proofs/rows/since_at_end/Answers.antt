@@ -1,8 +1,4 @@
 -- `planner::rows::since_at_end` is the time since release at the end of a slot, at most the period. Assumes nothing.
-use borrow.Author.Rules.{rules}
-use native.Mathlib.Nat.{mod-lt}
-use native.Mathlib.Omega.{arith}
-use lib.ListN.{get_or}
 use Rattle.planner.proofs.OneRow.{slot-first, slot-ends}
 use Rattle.planner.proofs.rows.since_at_end.Goals as goal
 

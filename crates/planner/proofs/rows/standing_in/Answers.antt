@@ -1,9 +1,8 @@
 -- `planner::rows::standing_in` is where progress stands in the pattern of a row. The invariant: the place is the entries passed and the place of what is left in the rest.
 -- The measure is the entries left. Assumes nothing.
 use borrow.Author.Rules.{rules}
-use Prim.Native.Nat.{◌-◌}
 use Rattle.tasks.specs.Views.{standing_of}
-use Rattle.planner.proofs.OneRow.{Walk, walk_start, walk_step, walk-ready, walk-waiting, walk_end}
+use Rattle.planner.proofs.OneRow.{walk_start, walk_step, walk-ready, walk-waiting, walk_end}
 use Rattle.planner.proofs.rows.standing_in.Goals as goal
 
 pub loop-i-init : goal.loop-i-init

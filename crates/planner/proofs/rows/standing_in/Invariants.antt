@@ -1,8 +1,6 @@
 -- `planner::rows::standing_in` is where progress stands in the pattern of a row. The invariant: the place is the entries passed and the place of what is left in the rest.
-use borrow.Author.Rules.{rules}
 use Prim.Native.Nat.{◌-◌}
-use Rattle.tasks.specs.Views.{standing_of}
-use Rattle.planner.proofs.OneRow.{Walk, walk_start, walk_step, walk-ready, walk-waiting, walk_end}
+use Rattle.planner.proofs.OneRow.{Walk}
 use Rattle.planner.proofs.rows.standing_in.Given as goal
 
 abbrev pub invariant-loop-i : goal.invariant-loop-i

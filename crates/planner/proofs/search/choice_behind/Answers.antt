@@ -1,5 +1,4 @@
 -- `planner::search::choice_behind` is the choice that follows: the tasks in their order, then idle, then none. Assumes nothing.
-use borrow.Author.Rules.{rules}
 use Rattle.planner.proofs.Steps.{behind-laws}
 use Rattle.planner.proofs.search.choice_behind.Goals as goal
 

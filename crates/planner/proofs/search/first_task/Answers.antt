@@ -1,9 +1,7 @@
 -- `planner::search::first_task` is the first task that leads on. The loop's invariant: none before place i does, and the list of progress is as it was.
 -- The measure is what is left of the tasks. Assumes nothing.
 use borrow.Author.Rules.{rules}
-use Prim.Native.Nat.{◌-◌}
-use lib.ListN.{get_or}
-use Rattle.planner.proofs.Firsts.{Missed, leads-some, missed-start, missed-length, missed-inside, seen-fits, missed-step, missed-again, first-hit, stay-hit, first-none, stay_none}
+use Rattle.planner.proofs.Firsts.{leads-some, missed-start, missed-step, missed-again, first-hit, stay-hit, first-none, stay_none}
 use mathlib.Core.Path.{ap}
 use mathlib.Core.Bool.{not}
 use Rattle.planner.proofs.search.first_task.Goals as goal
@@ -37,8 +35,9 @@ pub loop-i-preserved : goal.loop-i-preserved
 loop-i-preserved c =
     let v = c.loop-i.invariant in
     elim c.if-leads.branch [
-        then-leads+else-not-seen w ↦ missed-again _ _ _ _ _ _ _ _ _ _ _ _ v c.leads.ensures w.if-leads.true w.seen.ensures (ap not w.if-not-seen.false) _ w.stay-is
-      | else-leads w ↦ missed-step _ _ _ _ _ _ _ _ _ _ _ _ v c.leads.ensures w.if-leads.false w.stay-is ]
+      | then-leads+else-not-seen w ↦ missed-again _ _ _ _ _ _ _ _ _ _ _ _ v c.leads.ensures w.if-leads.true w.seen.ensures (ap not w.if-not-seen.false) _ w.stay-is
+      | else-leads w ↦ missed-step _ _ _ _ _ _ _ _ _ _ _ _ v c.leads.ensures w.if-leads.false w.stay-is
+    ]
 
 pub returns-clause-first : goal.returns-clause-first
 returns-clause-first c =

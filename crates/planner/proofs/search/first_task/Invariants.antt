@@ -1,9 +1,6 @@
 -- `planner::search::first_task` is the first task that leads on. The loop's invariant: none before place i does, and the list of progress is as it was.
-use borrow.Author.Rules.{rules}
-use mathlib.Core.Logic.{⊎_elim}
 use Prim.Native.Nat.{◌-◌}
-use lib.ListN.{get_or}
-use Rattle.planner.proofs.Firsts.{Missed, leads-some, missed-start, missed-length, missed-inside, seen-fits, missed-step, missed-again, first-hit, stay-hit, first-none, stay_none}
+use Rattle.planner.proofs.Firsts.{Missed}
 use Rattle.planner.proofs.search.first_task.Given as goal
 
 abbrev pub invariant-loop-i : goal.invariant-loop-i

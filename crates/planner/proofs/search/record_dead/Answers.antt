@@ -1,5 +1,4 @@
 -- `planner::search::record_dead` records the position and takes back the last choice as the machine does. Assumes nothing.
-use borrow.Author.Rules.{rules}
 use Rattle.planner.proofs.Backs.{start-dead, taken_back}
 use Rattle.planner.proofs.search.record_dead.Goals as goal
 

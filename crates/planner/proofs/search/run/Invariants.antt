@@ -1,10 +1,6 @@
 -- `planner::search::run` is a run of the machine from its start to its end. The loop's invariant: what is reached from the search as it
-use mathlib.Core.Path.{refl}
-use borrow.Author.Rules.{rules}
 use Rattle.rules.proofs.Plan.Ends.{left}
-use Rattle.planner.proofs.Repeats.{Underway, underway-start, step_fits, underway-step, step_less, stops}
-use Rattle.planner.specs.declared.Word.TheVariants.{Schedule, Infeasible, OutOfRoom}
-use Rattle.planner.specs.Views.{status_of, end_of}
+use Rattle.planner.proofs.Repeats.{Underway}
 use Rattle.planner.proofs.search.run.Given as goal
 
 abbrev pub invariant-loop-at : goal.invariant-loop-at

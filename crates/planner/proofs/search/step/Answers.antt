@@ -1,6 +1,5 @@
 -- `planner::search::step` tries the choices that are left, or is one step of the machine. Assumes nothing.
-use borrow.Author.Rules.{rules}
-use Rattle.planner.proofs.Steps.{may-try, may-record, list-whole, tried, room-full, shuts}
+use Rattle.planner.proofs.Steps.{list-whole, tried, room-full, shuts}
 use Rattle.planner.proofs.search.step.Goals as goal
 
 pub returns-then-at-h : goal.returns-then-at-h
