@@ -1,5 +1,4 @@
 -- `player::start` gives the reply of the rules. Assumes nothing.
-use borrow.Author.Rules.{rules}
 use Rattle.player.proofs.Starts.{refused-set, refused-length, refused-table, accepted}
 use Rattle.player.proofs.start.Goals as goal
 

@@ -1,5 +1,4 @@
 -- `player::tick` gives the reply of the rules. Assumes nothing.
-use borrow.Author.Rules.{rules}
 use Rattle.player.proofs.ByValue.{value-refused, value-accepted}
 use Rattle.player.proofs.tick.Goals as goal
 

@@ -1,6 +1,5 @@
 -- `player::begin::blank_state` is the state of no use. Assumes nothing.
 use Rattle.player.proofs.Starts.{state-blank}
-use borrow.Author.Rules.{rules}
 use Rattle.player.proofs.begin.blank_state.Goals as goal
 
 pub returns : goal.returns

@@ -1,7 +1,6 @@
 -- `player::begin::fresh_jobs` are n jobs that are done. The invariant: those before place i are, and blank ones follow. Assumes nothing.
-use Prim.Native.Nat.{◌-◌, ◌≤◌}
 use borrow.Author.Rules.{rules}
-use Rattle.player.proofs.Starts.{Fresh, fresh_start, fresh_step, fresh-end}
+use Rattle.player.proofs.Starts.{fresh_start, fresh_step, fresh-end}
 use Rattle.player.proofs.begin.fresh_jobs.Goals as goal
 
 pub loop-i-init : goal.loop-i-init

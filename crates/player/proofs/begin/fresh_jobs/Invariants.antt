@@ -1,7 +1,6 @@
 -- `player::begin::fresh_jobs` are n jobs that are done. The invariant: those before place i are, and blank ones follow. Assumes nothing.
 use Prim.Native.Nat.{◌-◌, ◌≤◌}
-use borrow.Author.Rules.{rules}
-use Rattle.player.proofs.Starts.{Fresh, fresh_start, fresh_step, fresh-end}
+use Rattle.player.proofs.Starts.{Fresh}
 use Rattle.player.proofs.begin.fresh_jobs.Given as goal
 
 abbrev pub invariant-loop-i : goal.invariant-loop-i

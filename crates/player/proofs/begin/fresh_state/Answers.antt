@@ -1,6 +1,5 @@
 -- `player::begin::fresh_state` is the fresh state of the rules. Assumes nothing.
 use native.Mathlib.Omega.{arith}
-use borrow.Author.Rules.{rules}
 use Rattle.tasks.proofs.Positions.{set-fits}
 use Rattle.player.proofs.Starts.{fresh-is}
 use Rattle.player.proofs.begin.fresh_state.Goals as goal

@@ -1,9 +1,7 @@
 -- `player::begin::is_live` tells whether the table is a live list. The invariant: the table from slot i on tells of all. Assumes nothing.
 use Prim.Native.Nat.{◌-◌, ◌≤◌}
-use native.Mathlib.Omega.{arith}
 use lib.ListN.{length}
-use borrow.Author.Rules.{rules}
-use Rattle.player.proofs.Starts.{Followed, no_start, followed-start, followed-fail, followed-step, followed-end}
+use Rattle.player.proofs.Starts.{Followed}
 use Rattle.player.proofs.begin.is_live.Given as goal
 
 abbrev pub invariant-loop-i : goal.invariant-loop-i

@@ -1,12 +1,8 @@
 -- `player::begin::tidy_task` has zeros beyond the steps. The invariant: the units before place i are copied, and zeros follow. Assumes nothing.
-use Prim.Native.Nat.{◌-◌}
-use mathlib.Core.Path.{◌≡◌}
 use native.Mathlib.Omega.{arith}
-use lib.ListN.{length}
 use borrow.Author.Rules.{rules}
-use Rattle.tasks.specs.Views.{task_of}
 use Rattle.tasks.proofs.OneTask.{pattern-short}
-use Rattle.player.proofs.Starts.{Units, units-start, units-step, units-end}
+use Rattle.player.proofs.Starts.{units-start, units-step, units-end}
 use Rattle.player.proofs.begin.tidy_task.Goals as goal
 
 pub loop-i-init : goal.loop-i-init

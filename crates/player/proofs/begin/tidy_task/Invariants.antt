@@ -1,12 +1,9 @@
 -- `player::begin::tidy_task` has zeros beyond the steps. The invariant: the units before place i are copied, and zeros follow. Assumes nothing.
 use Prim.Native.Nat.{◌-◌}
 use mathlib.Core.Path.{◌≡◌}
-use native.Mathlib.Omega.{arith}
 use lib.ListN.{length}
-use borrow.Author.Rules.{rules}
 use Rattle.tasks.specs.Views.{task_of}
-use Rattle.tasks.proofs.OneTask.{pattern-short}
-use Rattle.player.proofs.Starts.{Units, units-start, units-step, units-end}
+use Rattle.player.proofs.Starts.{Units}
 use Rattle.player.proofs.begin.tidy_task.Given as goal
 
 abbrev pub invariant-loop-i : goal.invariant-loop-i

@@ -1,6 +1,5 @@
 -- `player::codec::get_job` reads the job at a place. Assumes nothing.
 use Rattle.player.proofs.Codes.{job_read}
-use borrow.Author.Rules.{rules}
 use Rattle.player.proofs.codec.get_job.Goals as goal
 
 pub returns : goal.returns

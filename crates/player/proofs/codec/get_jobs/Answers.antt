@@ -1,11 +1,7 @@
 -- `player::codec::get_jobs` reads the jobs. The invariant: those before place i are read. The measure is what is left. Assumes nothing.
-use Rattle.player.specs.Views.{no_job, job_of}
-use Rattle.player.specs.Bytes.{job_at}
 use Rattle.player.proofs.Codes.{jobs-read}
 use mathlib.Core.Path.{refl}
-use Rattle.player.proofs.Places.{Got, got-start, got-step, got-end}
-use lib.ListN.{length}
-use Prim.Native.Nat.{◌+◌, ◌*◌, ◌-◌, ◌≤◌}
+use Rattle.player.proofs.Places.{got-start, got-step, got-end}
 use borrow.Author.Rules.{rules}
 use Rattle.player.proofs.codec.get_jobs.Goals as goal
 

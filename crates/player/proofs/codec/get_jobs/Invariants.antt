@@ -1,12 +1,9 @@
 -- `player::codec::get_jobs` reads the jobs. The invariant: those before place i are read. The measure is what is left. Assumes nothing.
 use Rattle.player.specs.Views.{no_job, job_of}
 use Rattle.player.specs.Bytes.{job_at}
-use Rattle.player.proofs.Codes.{jobs-read}
-use mathlib.Core.Path.{refl}
-use Rattle.player.proofs.Places.{Got, got-start, got-step, got-end}
+use Rattle.player.proofs.Places.{Got}
 use lib.ListN.{length}
 use Prim.Native.Nat.{◌+◌, ◌*◌, ◌-◌, ◌≤◌}
-use borrow.Author.Rules.{rules}
 use Rattle.player.proofs.codec.get_jobs.Given as goal
 
 abbrev pub invariant-loop-i : goal.invariant-loop-i

@@ -1,6 +1,5 @@
 -- `player::codec::get_pair` reads the number of 16 bits at a place. Assumes nothing.
 use Rattle.player.proofs.Codes.{pair_read}
-use borrow.Author.Rules.{rules}
 use Rattle.player.proofs.codec.get_pair.Goals as goal
 
 pub returns : goal.returns

@@ -1,10 +1,7 @@
 -- `player::codec::get_planned` reads the planned progress. The invariant: the numbers before place i are read. The measure is what is left. Assumes nothing.
-use Rattle.player.specs.Bytes.{pair_at}
 use Rattle.player.proofs.Codes.{planned-read}
 use mathlib.Core.Path.{refl}
-use Rattle.player.proofs.Places.{Got, got-start, got-step, got-end}
-use lib.ListN.{length}
-use Prim.Native.Nat.{ℕ, ◌+◌, ◌*◌, ◌-◌, ◌≤◌}
+use Rattle.player.proofs.Places.{got-start, got-step, got-end}
 use borrow.Author.Rules.{rules}
 use Rattle.player.proofs.codec.get_planned.Goals as goal
 

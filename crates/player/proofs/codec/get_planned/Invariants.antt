@@ -1,11 +1,8 @@
 -- `player::codec::get_planned` reads the planned progress. The invariant: the numbers before place i are read. The measure is what is left. Assumes nothing.
 use Rattle.player.specs.Bytes.{pair_at}
-use Rattle.player.proofs.Codes.{planned-read}
-use mathlib.Core.Path.{refl}
-use Rattle.player.proofs.Places.{Got, got-start, got-step, got-end}
+use Rattle.player.proofs.Places.{Got}
 use lib.ListN.{length}
 use Prim.Native.Nat.{ℕ, ◌+◌, ◌*◌, ◌-◌, ◌≤◌}
-use borrow.Author.Rules.{rules}
 use Rattle.player.proofs.codec.get_planned.Given as goal
 
 abbrev pub invariant-loop-i : goal.invariant-loop-i

@@ -1,11 +1,7 @@
 -- `player::codec::get_set` reads a task set. The invariant: the tasks before place i are read. The measure is what is left. Assumes nothing.
-use Rattle.player.specs.Bytes.{task_at}
-use Rattle.tasks.specs.Views.{no_entry, entry_of}
 use Rattle.player.proofs.Codes.{set-read}
 use mathlib.Core.Path.{refl}
-use Rattle.player.proofs.Places.{Got, got-start, got-step, got-end}
-use lib.ListN.{length}
-use Prim.Native.Nat.{◌+◌, ◌*◌, ◌-◌, ◌≤◌}
+use Rattle.player.proofs.Places.{got-start, got-step, got-end}
 use borrow.Author.Rules.{rules}
 use Rattle.player.proofs.codec.get_set.Goals as goal
 

@@ -1,12 +1,9 @@
 -- `player::codec::get_set` reads a task set. The invariant: the tasks before place i are read. The measure is what is left. Assumes nothing.
 use Rattle.player.specs.Bytes.{task_at}
 use Rattle.tasks.specs.Views.{no_entry, entry_of}
-use Rattle.player.proofs.Codes.{set-read}
-use mathlib.Core.Path.{refl}
-use Rattle.player.proofs.Places.{Got, got-start, got-step, got-end}
+use Rattle.player.proofs.Places.{Got}
 use lib.ListN.{length}
 use Prim.Native.Nat.{◌+◌, ◌*◌, ◌-◌, ◌≤◌}
-use borrow.Author.Rules.{rules}
 use Rattle.player.proofs.codec.get_set.Given as goal
 
 abbrev pub invariant-loop-i : goal.invariant-loop-i

@@ -1,6 +1,5 @@
 -- `player::codec::get_state` reads a state. Assumes nothing.
 use Rattle.player.proofs.Codes.{state-read}
-use borrow.Author.Rules.{rules}
 use Rattle.player.proofs.codec.get_state.Goals as goal
 
 pub returns : goal.returns

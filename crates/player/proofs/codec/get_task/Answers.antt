@@ -1,6 +1,5 @@
 -- `player::codec::get_task` reads the task at a place. Assumes nothing.
 use Rattle.player.proofs.Codes.{task-read}
-use borrow.Author.Rules.{rules}
 use Rattle.player.proofs.codec.get_task.Goals as goal
 
 pub returns : goal.returns

@@ -1,8 +1,6 @@
 -- `player::codec::get_units` reads seven bytes. The invariant: those before place i are read. The measure is what is left. Assumes nothing.
 use mathlib.Core.Path.{refl}
-use Rattle.player.proofs.Places.{Got, got-start, got-step, got-end}
-use lib.ListN.{length, get_or}
-use Prim.Native.Nat.{ℕ, ◌+◌, ◌-◌, ◌≤◌}
+use Rattle.player.proofs.Places.{got-start, got-step, got-end}
 use borrow.Author.Rules.{rules}
 use Rattle.player.proofs.codec.get_units.Goals as goal
 

@@ -1,9 +1,7 @@
 -- `player::codec::get_units` reads seven bytes. The invariant: those before place i are read. The measure is what is left. Assumes nothing.
-use mathlib.Core.Path.{refl}
-use Rattle.player.proofs.Places.{Got, got-start, got-step, got-end}
+use Rattle.player.proofs.Places.{Got}
 use lib.ListN.{length, get_or}
 use Prim.Native.Nat.{ℕ, ◌+◌, ◌-◌, ◌≤◌}
-use borrow.Author.Rules.{rules}
 use Rattle.player.proofs.codec.get_units.Given as goal
 
 abbrev pub invariant-loop-i : goal.invariant-loop-i

@@ -1,8 +1,5 @@
 -- `player::codec::put_job` writes a job. Assumes nothing.
 use Rattle.player.proofs.Codes.{job-put}
-use lib.ListN.{length-set}
-use native.Mathlib.Omega.{arith}
-use borrow.Author.Rules.{rules}
 use Rattle.player.proofs.codec.put_job.Goals as goal
 
 pub returns : goal.returns

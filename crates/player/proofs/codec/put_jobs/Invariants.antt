@@ -1,13 +1,9 @@
 -- `player::codec::put_jobs` writes the jobs. The invariant: those before place i are written. The measure is what is left. Assumes nothing.
-use Rattle.player.specs.Views.{jobs_of}
 use Rattle.player.specs.Bytes.{job_bytes}
 use Rattle.player.proofs.Codes.{job_in}
-use Rattle.player.proofs.Sizes.{job-size}
-use Rattle.player.proofs.Places.{Put, put-start, put_step, put-end}
-use native.Mathlib.Omega.{arith}
+use Rattle.player.proofs.Places.{Put}
 use lib.ListN.{length}
 use Prim.Native.Nat.{◌-◌, ◌≤◌}
-use borrow.Author.Rules.{rules}
 use Rattle.player.proofs.codec.put_jobs.Given as goal
 
 abbrev pub invariant-loop-i : goal.invariant-loop-i

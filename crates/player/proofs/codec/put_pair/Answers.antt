@@ -1,8 +1,5 @@
 -- `player::codec::put_pair` writes a number of 16 bits. Assumes nothing.
 use Rattle.player.proofs.Codes.{pair_put}
-use lib.ListN.{length-set}
-use native.Mathlib.Omega.{arith}
-use borrow.Author.Rules.{rules}
 use Rattle.player.proofs.codec.put_pair.Goals as goal
 
 pub returns : goal.returns

@@ -1,11 +1,8 @@
 -- `player::codec::put_planned` writes the planned progress. The invariant: the numbers before place i are written. The measure is what is left. Assumes nothing.
 use Rattle.player.specs.Views.{eight}
-use Rattle.player.specs.Bytes.{pair}
 use Rattle.player.proofs.Sizes.{pair_size}
-use Rattle.player.proofs.Places.{Put, put-start, put_step, put-end}
+use Rattle.player.proofs.Places.{put-start, put_step, put-end}
 use native.Mathlib.Omega.{arith}
-use lib.ListN.{length, get_or}
-use Prim.Native.Nat.{◌-◌, ◌≤◌}
 use borrow.Author.Rules.{rules}
 use Rattle.player.proofs.codec.put_planned.Goals as goal
 

@@ -1,12 +1,8 @@
 -- `player::codec::put_set` writes a task set. The invariant: the tasks before place i are written behind the count. The measure is what is left. Assumes nothing.
-use Rattle.player.specs.Bytes.{task_bytes}
-use Rattle.player.proofs.Codes.{task-length, entry_at, set-put}
+use Rattle.player.proofs.Codes.{task-length, set-put}
 use lib.ListN.{length-set}
-use mathlib.Core.Path.{◌∙◌}
-use Rattle.player.proofs.Places.{Put, put-start, put_step, put-end}
+use Rattle.player.proofs.Places.{put-start, put_step, put-end}
 use native.Mathlib.Omega.{arith}
-use lib.ListN.{length}
-use Prim.Native.Nat.{◌-◌, ◌≤◌}
 use borrow.Author.Rules.{rules}
 use Rattle.player.proofs.codec.put_set.Goals as goal
 

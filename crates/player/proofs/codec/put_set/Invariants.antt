@@ -1,13 +1,9 @@
 -- `player::codec::put_set` writes a task set. The invariant: the tasks before place i are written behind the count. The measure is what is left. Assumes nothing.
 use Rattle.player.specs.Bytes.{task_bytes}
-use Rattle.player.proofs.Codes.{task-length, entry_at, set-put}
-use lib.ListN.{length-set}
-use mathlib.Core.Path.{◌∙◌}
-use Rattle.player.proofs.Places.{Put, put-start, put_step, put-end}
-use native.Mathlib.Omega.{arith}
+use Rattle.player.proofs.Codes.{entry_at}
+use Rattle.player.proofs.Places.{Put}
 use lib.ListN.{length}
 use Prim.Native.Nat.{◌-◌, ◌≤◌}
-use borrow.Author.Rules.{rules}
 use Rattle.player.proofs.codec.put_set.Given as goal
 
 abbrev pub invariant-loop-i : goal.invariant-loop-i

@@ -1,6 +1,5 @@
 -- `player::codec::put_state` writes a state. Assumes nothing.
-use Rattle.player.proofs.Codes.{state-put, state-kept}
-use borrow.Author.Rules.{rules}
+use Rattle.player.proofs.Codes.{state-put}
 use Rattle.player.proofs.codec.put_state.Goals as goal
 
 pub returns : goal.returns

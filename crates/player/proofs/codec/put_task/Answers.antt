@@ -1,6 +1,5 @@
 -- `player::codec::put_task` writes a task. Assumes nothing.
-use Rattle.player.proofs.Codes.{units-room, task-put, task-kept}
-use borrow.Author.Rules.{rules}
+use Rattle.player.proofs.Codes.{task-put}
 use Rattle.player.proofs.codec.put_task.Goals as goal
 
 pub returns : goal.returns

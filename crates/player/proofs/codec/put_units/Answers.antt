@@ -1,11 +1,8 @@
 -- `player::codec::put_units` writes seven bytes. The invariant: those before place i are written. The measure is what is left. Assumes nothing.
-use mathlib.Core.List.{[], ◌∷◌}
 use Rattle.player.proofs.Codes.{unit-put, units-put}
 use mathlib.Core.Path.{refl}
-use Rattle.player.proofs.Places.{Put, put-start, put_step, put-end}
+use Rattle.player.proofs.Places.{put-start, put_step, put-end}
 use native.Mathlib.Omega.{arith}
-use lib.ListN.{length, get_or}
-use Prim.Native.Nat.{ℕ, ◌+◌, ◌-◌, ◌≤◌}
 use borrow.Author.Rules.{rules}
 use Rattle.player.proofs.codec.put_units.Goals as goal
 

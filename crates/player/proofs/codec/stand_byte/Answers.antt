@@ -4,7 +4,6 @@ use Rattle.player.specs.declared.Stand.TheVariants.{Stopped}
 use mathlib.Core.Path.{◌≡◌}
 use Rattle.player.specs.Bytes.{stand_byte}
 use Rattle.player.specs.Views.{cause_of, stand_of}
-use borrow.Author.Rules.{rules}
 use Rattle.player.proofs.codec.stand_byte.Goals as goal
 
 pub returns-in-Ready : goal.returns-in-Ready

@@ -1,8 +1,7 @@
 -- `player::look::blank_rest` tests the parts beyond n. The invariant: the tests from place i on tell of all. The measure is what is left. Assumes nothing.
-use Prim.Native.Nat.{ℕ, ◌-◌}
 use borrow.Author.Rules.{rules}
-use Rattle.player.specs.Looks.{numbers, blank_at}
-use Rattle.player.proofs.Tests.{told-no, told-yes, Rest, rest-start, rest-step, rest-fail, rest-pass}
+use Rattle.player.specs.Looks.{numbers}
+use Rattle.player.proofs.Tests.{told-no, told-yes, rest-start, rest-step, rest-fail, rest-pass}
 use mathlib.Core.Path.{ap}
 use mathlib.Core.Bool.{not}
 use Rattle.player.proofs.look.blank_rest.Goals as goal

@@ -1,7 +1,5 @@
 -- `player::look::examine` tells whether a state has the form, and then its set's hyper-period and where the slot's entry leads. Each way to lack
 -- the form is a law, and so is each thing said of a state that has it. Assumes nothing.
-use native.Mathlib.Omega.{arith}
-use borrow.Author.Rules.{rules}
 use borrow.Author.Tests.{not-false}
 use Rattle.player.proofs.FormRows.{lacks-one, lacks-end, lacks-tasks, lacks-last, lacks_rest, lacks-short, lacks-before, has-form, has-period, has-legal, has-next}
 use mathlib.Core.Path.{ap, sym, ◌∙◌}
@@ -56,7 +54,7 @@ returns-clause-formed c =
     let yes = not-false _ h.if-not-looked.false in
     let few = g.if-n-gt8.false in
     let short = l.if-hyper-gt4096.false in (has-form _ _ g.get_pair-slot.ensures _ h.hyper_in-hyper.ensures few short s.requires.state_len g.if-n-eq0.false l.if-hyper-slot.false
-          _ _ _ k.look-looked.ensures.formed h.if-not-looked.false l.last_fits.ensures (ap not r.if-not-last_fits.false) r.blank_rest.ensures (ap not c.if-not-blank_rest.false))
+    _ _ _ k.look-looked.ensures.formed h.if-not-looked.false l.last_fits.ensures (ap not r.if-not-last_fits.false) r.blank_rest.ensures (ap not c.if-not-blank_rest.false))
 
 pub returns-clause-period : goal.returns-clause-period
 returns-clause-period c =

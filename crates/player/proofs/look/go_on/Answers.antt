@@ -1,6 +1,5 @@
 -- `player::look::go_on` goes from the slot's end to the next slot. Assumes nothing.
-use Rattle.player.proofs.OneJob.{again-well, again-on, same-well, same-on}
-use mathlib.Core.Path.{refl}
+use Rattle.player.proofs.OneJob.{again-well, same-well}
 use borrow.Author.Rules.{rules}
 use Rattle.player.proofs.look.go_on.Goals as goal
 

@@ -1,13 +1,8 @@
 -- `player::look::hyper_in` is the hyper-period of the tasks with its bound. The invariant: `h` is that of the tasks from `i` on. The measure is `i`.
 -- Assumes nothing.
-use borrow.Author.Rules.{rules}
-use mathlib.Core.Path.{◌≡◌, refl}
-use Prim.Native.Nat.{◌-◌, ◌≤◌}
+use mathlib.Core.Path.{refl}
+use Prim.Native.Nat.{◌-◌}
 use native.Mathlib.Omega.{arith}
-use Rattle.rules.specs.Lists.{tabulate}
-use Rattle.rules.specs.Hyper.{hyper}
-use Rattle.tasks.specs.Views.{bounded}
-use Rattle.player.specs.Looks.{task_for}
 use Rattle.player.proofs.Looking.{hyper-last, hyper-before, hyper-first}
 use Rattle.player.proofs.look.hyper_in.Goals as goal
 

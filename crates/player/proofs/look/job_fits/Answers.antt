@@ -1,8 +1,6 @@
 -- `player::look::job_fits` tests one job. Assumes nothing.
 use borrow.Author.Rules.{rules}
 use Rattle.player.proofs.OneJob.{units-inside, job-fit-laws}
-use native.Mathlib.Omega.{arith}
-use Prim.Native.Nat.{◌+◌, ◌*◌}
 use Rattle.player.proofs.look.job_fits.Goals as goal
 
 pub returns-then-n-step : goal.returns-then-n-step

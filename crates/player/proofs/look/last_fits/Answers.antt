@@ -1,6 +1,5 @@
 -- `player::look::last_fits` tests the last runner, which is byte 139. Assumes nothing.
 use Rattle.player.proofs.Blanks.{last-laws}
-use native.Mathlib.Omega.{arith}
 use borrow.Author.Rules.{rules}
 use Rattle.player.proofs.look.last_fits.Goals as goal
 

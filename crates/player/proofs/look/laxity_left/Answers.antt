@@ -1,7 +1,6 @@
 -- `player::look::laxity_left` is the laxity in numbers, exact below zero too. Assumes nothing.
 use native.Mathlib.Omega.{arith}
-use borrow.Author.Rules.{rules}
-use Rattle.tasks.proofs.OneTask.{difference-fits, differences-fit, differences}
+use Rattle.tasks.proofs.OneTask.{differences}
 use Rattle.player.specs.Looks.{laxity_left}
 use Rattle.player.proofs.look.laxity_left.Goals as goal
 

@@ -1,9 +1,6 @@
 -- `player::look::look` looks at every task. The invariant: the tasks before number i have their form, `well` tells of the choice for them, and their
 -- progress is in `planned`. The measure is what is left. Assumes nothing.
-use borrow.Author.Rules.{rules}
-use Prim.Native.Nat.{◌-◌}
-use Rattle.rules.proofs.Lists.{clash-bool}
-use Rattle.player.proofs.Looking.{Sees, sees-start, sees-long, sees-place, sees-fail, sees-step, sees-fits, sees-well, sees-on}
+use Rattle.player.proofs.Looking.{sees-start, sees-fail, sees-step, sees-fits, sees-well, sees-on}
 use Rattle.player.proofs.look.look.Goals as goal
 
 pub loop-i-init : goal.loop-i-init

@@ -1,11 +1,8 @@
 -- `player::look::rest_zero` tests the units beyond m steps, two a turn. The invariant: the tests from step k on tell of all.
-use borrow.Author.Rules.{rules}
 use Prim.Native.Nat.{◌+◌, ◌-◌, ◌≤◌}
 use lib.ListN.{length, get_or}
 use Rattle.rules.specs.Lists.{is_zero}
-use Rattle.player.specs.Looks.{entries}
-use Rattle.player.proofs.Tests.{Rest, rest-start, rest-pass}
-use Rattle.player.proofs.Walks.{pair_step, pair-fail}
+use Rattle.player.proofs.Tests.{Rest}
 use Rattle.player.proofs.look.rest_zero.Given as goal
 
 abbrev pub invariant-loop-k : goal.invariant-loop-k

@@ -1,5 +1,4 @@
 -- `player::look::see_task`: the form of one task, and what the slot does to it, from the numbers that its calls tell of. Assumes nothing.
-use Prim.Native.Nat.{◌+◌, ◌*◌}
 use native.Mathlib.Omega.{arith}
 use borrow.Author.Rules.{rules}
 use Rattle.player.proofs.Sights.{steps-some, steps-few, period-some, since-below, pattern-long, sizes-fail, units-fail, plan-fail, job-fail, seen}

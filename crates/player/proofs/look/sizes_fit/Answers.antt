@@ -1,7 +1,4 @@
 -- `player::look::sizes_fit` tests the numbers of a task in turn: m, T and D, and the units beyond the steps. Assumes nothing.
-use borrow.Author.Rules.{rules}
-use native.Mathlib.Omega.{arith}
-use Prim.Native.Nat.{◌+◌}
 use Rattle.player.proofs.Walks.{sizes-laws}
 use Rattle.player.proofs.look.sizes_fit.Goals as goal
 

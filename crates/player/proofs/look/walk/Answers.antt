@@ -2,10 +2,9 @@
 -- The invariant: all three hold of the entries passed. The measure is what is left. Assumes nothing.
 use borrow.Author.Rules.{rules}
 use mathlib.Core.Path.{◌≡◌}
-use Prim.Native.Nat.{◌+◌, ◌-◌, ◌≤◌}
+use Prim.Native.Nat.{◌+◌}
 use native.Mathlib.Omega.{arith}
-use lib.ListN.{length}
-use Rattle.player.proofs.Walks.{Walk, walk_start, walk_step, walk_end}
+use Rattle.player.proofs.Walks.{walk_start, walk_step, walk_end}
 use Rattle.player.proofs.look.walk.Goals as goal
 
 pub loop-i-init : goal.loop-i-init

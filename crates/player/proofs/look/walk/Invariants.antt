@@ -1,10 +1,7 @@
 -- `player::look::walk` finds the length of a pattern, the place of progress, and whether every entry is 1 or more.
-use borrow.Author.Rules.{rules}
-use mathlib.Core.Path.{◌≡◌}
 use Prim.Native.Nat.{◌+◌, ◌-◌, ◌≤◌}
-use native.Mathlib.Omega.{arith}
 use lib.ListN.{length}
-use Rattle.player.proofs.Walks.{Walk, walk_start, walk_step, walk_end}
+use Rattle.player.proofs.Walks.{Walk}
 use Rattle.player.proofs.look.walk.Given as goal
 
 abbrev pub invariant-loop-i : goal.invariant-loop-i

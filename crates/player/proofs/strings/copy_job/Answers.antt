@@ -1,7 +1,4 @@
 -- `player::strings::copy_job` copies a job: its three bytes are those of the job read there. Assumes nothing.
-use lib.ListN.{length-set}
-use native.Mathlib.Omega.{arith}
-use borrow.Author.Rules.{rules}
 use Rattle.player.proofs.TurnRows.{job-copied}
 use Rattle.player.proofs.strings.copy_job.Goals as goal
 

@@ -1,11 +1,8 @@
 -- `player::strings::copy_state` writes 140 bytes. The invariant: those before place i are written. The measure is what is left. Assumes nothing.
 use mathlib.Core.Path.{refl}
-use mathlib.Core.List.{[], ◌∷◌}
-use Prim.Native.Nat.{ℕ, ◌-◌, ◌≤◌}
 use native.Mathlib.Omega.{arith}
 use borrow.Author.Rules.{rules}
-use lib.ListN.{length, get_or}
-use Rattle.player.proofs.Places.{Put, put-start, put_step, put-end}
+use Rattle.player.proofs.Places.{put-start, put_step, put-end}
 use Rattle.player.proofs.Codes.{fault-put}
 use Rattle.player.proofs.Blanks.{copied}
 use Rattle.player.proofs.strings.copy_state.Goals as goal

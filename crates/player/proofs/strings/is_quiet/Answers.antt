@@ -1,7 +1,5 @@
 -- `player::strings::is_quiet` makes the four tests in turn. The task's period is 1 or more. Assumes nothing.
-use native.Mathlib.Omega.{arith}
-use borrow.Author.Rules.{rules}
-use Rattle.player.proofs.TurnRows.{owns, reports-some, ran-before, starts-not, period-some}
+use Rattle.player.proofs.TurnRows.{reports-some, ran-before, starts-not, period-some}
 use Rattle.player.proofs.strings.is_quiet.Goals as goal
 
 pub returns-then-report-ne0 : goal.returns-then-report-ne0

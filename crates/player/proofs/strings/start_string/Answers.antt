@@ -1,6 +1,5 @@
 -- `player::strings::start_string` is the start of the rules on byte strings. Assumes nothing.
 use Rattle.player.proofs.Calls.{start-length, start-refused, start-short, start-done}
-use borrow.Author.Rules.{rules}
 use Rattle.player.proofs.strings.start_string.Goals as goal
 
 pub returns-then-set-ne97-clause-number : goal.returns-then-set-ne97-clause-number

@@ -1,7 +1,6 @@
 -- `player::strings::tick_string` is the tick of the rules on byte strings. Assumes nothing.
 use native.Mathlib.Omega.{arith}
-use Rattle.player.proofs.Ticking.{tick-unsized, tick-unformed, tick-reports, few, fit, tick-table, slot-below, tick-illegal, tick-short, tick-narrow, tick-done, tick-room, tick-kept}
-use borrow.Author.Rules.{rules}
+use Rattle.player.proofs.Ticking.{tick-unsized, tick-unformed, tick-reports, few, fit, tick-table, slot-below, tick-illegal, tick-short, tick-narrow, tick-done}
 use Rattle.player.proofs.strings.tick_string.Goals as goal
 
 pub returns-then-state-ne140-clause-number : goal.returns-then-state-ne140-clause-number

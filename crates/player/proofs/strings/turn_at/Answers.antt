@@ -1,6 +1,4 @@
 -- `player::strings::turn_at` is the turn of one task on a state's string; a quiet task's job is copied. Assumes nothing.
-use native.Mathlib.Omega.{arith}
-use borrow.Author.Rules.{rules}
 use Rattle.player.proofs.TurnRows.{quiet-job, quiet_fault, quiet-runs, stand-low, job-formed, row-job, row-fault, row-runs}
 use Rattle.player.proofs.strings.turn_at.Goals as goal
 

@@ -1,10 +1,6 @@
 -- `player::strings::turns_in` are the turns of all tasks on a state's string. The invariant: those before number i + 1 are taken.
 -- The measure is what is left. Assumes nothing.
-use Prim.Native.Nat.{◌-◌}
-use native.Mathlib.Omega.{arith}
-use lib.ListN.{length}
-use borrow.Author.Rules.{rules}
-use Rattle.player.proofs.TurnRows.{Turned, turned-start, turned-runs, turned-rests, turned-jobs, turned-shown, turned-runner, row_fits}
+use Rattle.player.proofs.TurnRows.{turned-start, turned-runs, turned-rests, turned-jobs, turned-shown, turned-runner, row_fits}
 use Rattle.player.proofs.strings.turns_in.Goals as goal
 
 pub loop-i-init : goal.loop-i-init

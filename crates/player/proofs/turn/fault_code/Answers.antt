@@ -1,5 +1,4 @@
 -- `player::turn::fault_code` is the number of a cause. Assumes nothing.
-use borrow.Author.Rules.{rules}
 use Rattle.rules.specs.Jobs.{code}
 use Rattle.player.specs.declared.Cause.TheVariants.{Overrun, Late, Untrue}
 use Rattle.player.specs.declared.Stand.TheVariants.{Stopped}

@@ -1,5 +1,4 @@
 -- `player::turn::job_begun` starts a new job where the period divides the slot. Assumes nothing.
-use borrow.Author.Rules.{rules}
 use Rattle.player.proofs.Turns.{turn-laws}
 use Rattle.player.proofs.turn.job_begun.Goals as goal
 

@@ -1,6 +1,5 @@
 -- `player::turn::new_fault` shows a fault once. Assumes nothing.
 use mathlib.Core.Path.{refl, ap, sym}
-use borrow.Author.Rules.{rules}
 use Rattle.rules.specs.Jobs.{new_fault}
 use Rattle.player.specs.declared.Stand.{Stand}
 use Rattle.player.specs.Views.{stand_of}

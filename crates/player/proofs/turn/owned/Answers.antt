@@ -1,7 +1,4 @@
 -- `player::turn::owned` is what the slot does to its owner. Assumes nothing.
-use Prim.Native.Nat.{◌<◌}
-use native.Mathlib.Omega.{arith}
-use borrow.Author.Rules.{rules}
 use Rattle.player.proofs.Turns.{turn-laws}
 use Rattle.player.proofs.turn.owned.Goals as goal
 

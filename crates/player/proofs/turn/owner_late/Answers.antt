@@ -1,5 +1,4 @@
 -- `player::turn::owner_late` tells whether the slot's owner is late. Assumes nothing.
-use borrow.Author.Rules.{rules}
 use Rattle.player.proofs.Turns.{turn-laws}
 use Rattle.player.proofs.turn.owner_late.Goals as goal
 

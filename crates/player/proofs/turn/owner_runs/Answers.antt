@@ -1,5 +1,4 @@
 -- `player::turn::owner_runs` tells whether the slot's owner runs. Assumes nothing.
-use borrow.Author.Rules.{rules}
 use Rattle.player.proofs.Turns.{turn-laws}
 use Rattle.player.proofs.turn.owner_runs.Goals as goal
 

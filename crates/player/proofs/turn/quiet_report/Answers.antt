@@ -1,5 +1,4 @@
 -- `player::turn::quiet_report` takes the report on a job that neither ran nor waits. Assumes nothing.
-use borrow.Author.Rules.{rules}
 use Rattle.player.proofs.Turns.{turn-laws}
 use Rattle.player.proofs.turn.quiet_report.Goals as goal
 

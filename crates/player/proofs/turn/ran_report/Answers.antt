@@ -1,5 +1,4 @@
 -- `player::turn::ran_report` takes the report on a job that ran. Assumes nothing.
-use borrow.Author.Rules.{rules}
 use Rattle.player.proofs.Turns.{turn-laws}
 use Rattle.player.proofs.turn.ran_report.Goals as goal
 

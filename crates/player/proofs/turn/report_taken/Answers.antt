@@ -1,5 +1,4 @@
 -- `player::turn::report_taken` takes the report by how the job stands. A waiting job of the form has a step behind it. Assumes nothing.
-use borrow.Author.Rules.{rules}
 use Rattle.player.proofs.Turns.{turn-laws, wait-room}
 use Rattle.player.proofs.turn.report_taken.Goals as goal
 

@@ -1,5 +1,4 @@
 -- `player::turn::step_done` waits behind the step, or is done after the last. Assumes nothing.
-use borrow.Author.Rules.{rules}
 use Rattle.player.proofs.Turns.{turn-laws}
 use Rattle.player.proofs.turn.step_done.Goals as goal
 

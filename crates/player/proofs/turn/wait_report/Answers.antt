@@ -1,5 +1,4 @@
 -- `player::turn::wait_report` takes the report on a waiting job. Assumes nothing.
-use borrow.Author.Rules.{rules}
 use Rattle.player.proofs.Turns.{turn-laws}
 use Rattle.player.proofs.turn.wait_report.Goals as goal
 
