@@ -1,8 +1,6 @@
 -- `report::put_answer` meets its contract: the text of each answer. A schedule has room by the bounds on its lines.
 -- Assumes nothing.
-use mathlib.Core.Path.{sym, ap, ◌∙◌}
-use lib.Seq.{length-take-le}
-use borrow.Author.Rules.{rules}
+use mathlib.Core.Path.{ap, ◌∙◌}
 use Rattle.rules.specs.Planner.{answered}
 use Rattle.planner.specs.Views.{word_of, answer_of}
 use Rattle.report.specs.Texts.{schedule_word, infeasible_word, out_of_room_word}

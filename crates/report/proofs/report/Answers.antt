@@ -1,8 +1,7 @@
 -- `report::report` meets its contract: nothing where too little is lent, the refusal, or the planner's answer, of an admissible set and a table long enough.
 -- Assumes nothing.
-use borrow.Author.Rules.{rules}
 use Rattle.report.specs.Texts.{refused_word}
-use Rattle.report.proofs.Told.{short-table, short-out, refused-told, planned-tellable, planned-told}
+use Rattle.report.proofs.Told.{refused-told, planned-tellable, planned-told}
 use Rattle.report.proofs.report.Goals as goal
 
 pub returns-then-refusal-ne0 : goal.returns-then-refusal-ne0

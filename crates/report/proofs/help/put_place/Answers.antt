@@ -1,10 +1,5 @@
 -- `report::help::put_place` meets its contract: the parts one after the other, with the digits made in an array.
 -- Assumes nothing.
-use mathlib.Core.Path.{sym}
-use native.Mathlib.Omega.{arith}
-use lib.Seq.{length-take-le}
-use borrow.Author.Rules.{rules}
-use Rattle.report.proofs.Put.{put-length}
 use Rattle.report.proofs.Said.{place-text}
 use Rattle.report.proofs.help.put_place.Goals as goal
 

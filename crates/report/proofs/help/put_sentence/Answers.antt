@@ -1,7 +1,6 @@
 -- `report::help::put_sentence` meets its contract: the sentence of each arm is that of its number.
 -- Assumes nothing.
 use native.Mathlib.Omega.{arith}
-use borrow.Author.Rules.{rules}
 use Rattle.report.specs.Help.{sentence, too_long, misformed, out_of_range, late, miscounted, too_high}
 use Rattle.report.proofs.Said.{sentence-last}
 use Rattle.report.proofs.help.put_sentence.Goals as goal

@@ -2,7 +2,7 @@
 -- Assumes nothing.
 use borrow.Author.Rules.{rules}
 use native.Mathlib.Omega.{arith}
-use Prim.Native.Nat.{ℕ, ◌-◌, ◌/◌, ◌<◌}
+use Prim.Native.Nat.{◌-◌, ◌/◌}
 use Rattle.report.proofs.Numbers.{digits-length, digits-none, digits-zero, digits_more}
 use Rattle.report.proofs.write.+put_digits.Goals as goal
 

@@ -1,8 +1,4 @@
 -- `report::write::put_digits` meets its contract: the digits before the last by its call of itself, then the last. The measure is the number of digits allowed.
-use borrow.Author.Rules.{rules}
-use native.Mathlib.Omega.{arith}
-use Prim.Native.Nat.{ℕ, ◌-◌, ◌/◌, ◌<◌}
-use Rattle.report.proofs.Numbers.{digits-length, digits-none, digits-zero, digits_more}
 use Rattle.report.proofs.write.+put_digits.Given as goal
 
 abbrev pub decreases-put_digits : goal.decreases-put_digits

@@ -1,10 +1,7 @@
 -- `report::write::put_slots` meets its contract. The loop's invariant: what is done and the lines of the slots left make up all lines. The measure is the number of slots left.
 -- Assumes nothing.
 use borrow.Author.Rules.{rules}
-use mathlib.Core.Path.{◌≡◌}
-use Prim.Native.Nat.{◌-◌}
-use lib.ListN.{length}
-use Rattle.report.proofs.Slots.{SlotsInv, slots-start, slots-choice, slots-room, slots-more, slots-full, slots-feed, slots-part}
+use Rattle.report.proofs.Slots.{slots-start, slots-choice, slots-room, slots-more, slots-full, slots-feed, slots-part}
 use Rattle.report.proofs.write.put_slots.Goals as goal
 
 pub loop-i-init : goal.loop-i-init

@@ -1,9 +1,8 @@
 -- `report::write::put_slots` meets its contract. The loop's invariant: what is done and the lines of the slots left make up all lines. The measure is the number of slots left.
-use borrow.Author.Rules.{rules}
 use mathlib.Core.Path.{◌≡◌}
 use Prim.Native.Nat.{◌-◌}
 use lib.ListN.{length}
-use Rattle.report.proofs.Slots.{SlotsInv, slots-start, slots-choice, slots-room, slots-more, slots-full, slots-feed, slots-part}
+use Rattle.report.proofs.Slots.{SlotsInv}
 use Rattle.report.proofs.write.put_slots.Given as goal
 
 abbrev pub invariant-loop-i : goal.invariant-loop-i

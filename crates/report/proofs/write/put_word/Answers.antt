@@ -1,10 +1,6 @@
 -- `report::write::put_word` meets its contract. The loop's invariant: the first i bytes of the word are put. The measure is what is left of the word.
 -- Assumes nothing.
 use borrow.Author.Rules.{rules}
-use Prim.Native.Nat.{◌+◌, ◌-◌, ◌≤◌}
-use mathlib.Core.Path.{◌≡◌}
-use lib.ListN.{length, take}
-use Rattle.report.specs.Put.{Put}
 use Rattle.report.proofs.Put.{word-start, word_more, word-all}
 use Rattle.report.proofs.write.put_word.Goals as goal
 
