@@ -1,7 +1,6 @@
 -- `kiluvsaat_plan` is the planner's reply on byte strings. Assumes nothing.
 use Rattle.kiluvsaat.proofs.Planned.{plan-length, plan-refused, plan-answered}
 use native.Mathlib.Omega.{arith}
-use borrow.Author.Rules.{rules}
 use Rattle.kiluvsaat.proofs.prepare.kiluvsaat_plan.Goals as goal
 
 pub returns-then-set-ne97 : goal.returns-then-set-ne97

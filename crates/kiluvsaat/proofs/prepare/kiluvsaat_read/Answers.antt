@@ -1,6 +1,5 @@
 -- `kiluvsaat_read` is the reading of a list on byte strings. Assumes nothing.
 use Rattle.kiluvsaat.proofs.Listed.{read-refused, read_short, read_done}
-use borrow.Author.Rules.{rules}
 use Rattle.kiluvsaat.proofs.prepare.kiluvsaat_read.Goals as goal
 
 pub returns-then-refusal-ne0-clause-number : goal.returns-then-refusal-ne0-clause-number

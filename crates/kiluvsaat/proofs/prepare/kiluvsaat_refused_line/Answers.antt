@@ -1,7 +1,6 @@
 -- `kiluvsaat_refused_line` is where the refused line of a list stands. Assumes nothing.
 use native.Mathlib.Omega.{arith}
 use Rattle.kiluvsaat.proofs.Listed.{placed, place_is}
-use borrow.Author.Rules.{rules}
 use Rattle.kiluvsaat.proofs.prepare.kiluvsaat_refused_line.Goals as goal
 
 pub overflow_mul-result : goal.overflow_mul-result

@@ -1,7 +1,6 @@
 -- `kiluvsaat_slots` is the hyper-period of a set on byte strings. Assumes nothing.
 use Rattle.kiluvsaat.proofs.Planned.{slots_length, slots-refused, slots-done}
 use native.Mathlib.Omega.{arith}
-use borrow.Author.Rules.{rules}
 use Rattle.kiluvsaat.proofs.prepare.kiluvsaat_slots.Goals as goal
 
 pub returns-then-set-ne97 : goal.returns-then-set-ne97

@@ -1,7 +1,6 @@
 -- `kiluvsaat::prepare::word_number` is the number of a word. Assumes nothing.
 use Rattle.planner.specs.Views.{word_of}
 use Rattle.kiluvsaat.specs.Plans.{word_number}
-use borrow.Author.Rules.{rules}
 use Rattle.kiluvsaat.proofs.prepare.word_number.Goals as goal
 
 pub returns-in-Schedule : goal.returns-in-Schedule
