@@ -2,7 +2,7 @@
 use mathlib.Core.Path.{◌≡◌, refl, sym, ap, ◌∙◌}
 use mathlib.Core.Bool.{Bool, true, false, cond, not, ◌&&◌, ◌||◌, and-false}
 use mathlib.Core.List.{List, [], ◌∷◌}
-use Prim.Native.Nat.{ℕ, zero, suc, ◌+◌, ◌-◌, ◌≤◌, ◌<◌, ◌%◌, ◌^◌}
+use Prim.Native.Nat.{ℕ, zero, suc, ◌+◌, ◌-◌, ◌≤◌, ◌<◌, ◌^◌}
 use native.Mathlib.Nat.{pow-suc}
 use native.Mathlib.Omega.{arith}
 use borrow.Author.Tests.{eq-eqb, ne_eqb, eqb-true, eqb-false}
@@ -10,7 +10,7 @@ use lib.Dec.{eqb, eqb-suc-zero}
 use lib.ListN.{length, get_or, take, set, length-set}
 use lib.Seq.{ext_get_or, get_or-take, get_or-set_same, get_or-set_other, length-take-le}
 use Rattle.rules.specs.Tasks.{Task, no_task, Standing, ready, waiting, done, standing, is_ready}
-use Rattle.rules.specs.Positions.{Position, idle, each, every, allowed, moved, passed, ended, starts, restarted, next, in_time, live_position, ends_well, ends_live, legal}
+use Rattle.rules.specs.Positions.{Position, idle, each, every, allowed, moved, passed, ended, next, legal}
 use Rattle.rules.proofs.Lists.{clash}
 use Rattle.rules.proofs.Run.Reach.{ended_at, next-length, next-at}
 use Rattle.tasks.proofs.Slotwise.{legal-well}

@@ -4,7 +4,7 @@ use mathlib.Core.Logic.{◌⊎◌, inl, inr}
 use mathlib.Core.Bool.{Bool, true, false, cond, ◌&&◌}
 use mathlib.Core.List.{List, [], ◌∷◌, ◌++◌, append-nil}
 use Prim.Native.Nat.{ℕ, zero, suc, ◌+◌, ◌-◌, ◌*◌, ◌≤◌, ◌<◌, ◌%◌, ◌/◌}
-use native.Mathlib.Nat.{sub-zero, suc-mod, mod-eq_of_lt, mod_self, mod-lt}
+use native.Mathlib.Nat.{sub-zero}
 use native.Mathlib.Numerals.{add-one}
 use native.Mathlib.Omega.{arith}
 use borrow.Author.Tests.{eq-eqb, ne_eqb}
@@ -15,9 +15,7 @@ use Rattle.rules.specs.Tasks as model
 use Rattle.rules.specs.Tasks.{span, standing, is_ready, no_task}
 use Rattle.rules.specs.Positions.{Position, idle, each, ended, starts, restarted, next, legal, start}
 use Rattle.rules.specs.Choices.{live_from}
-use Rattle.rules.proofs.Lists.{clash}
 use Rattle.rules.proofs.Laws.{T_and, le-or-lt, each_at, each-length}
-use Rattle.rules.proofs.Run.Reach.{next-length}
 use Rattle.tasks.specs.declared.Standing.{Standing}
 use Rattle.tasks.specs.Views.{standing_of}
 use Rattle.tasks.proofs.Slotwise.{starts-full}

@@ -4,10 +4,10 @@ use mathlib.Core.Logic.{◌⊎◌, inl, inr}
 use mathlib.Core.Bool.{Bool, true, false, not, cond, ◌&&◌, ◌||◌}
 use mathlib.Core.List.{List, [], ◌∷◌}
 use Prim.Native.Nat.{ℕ, zero, suc, ◌+◌, ◌-◌, ◌*◌, ◌^◌, ◌%◌, ◌≤◌, ◌<◌}
-use native.Mathlib.Nat.{mod-lt, mod_self, mod-eq_of_lt, suc-mod}
+use native.Mathlib.Nat.{mod_self, suc-mod}
 use native.Mathlib.Numerals.{add-one}
 use native.Mathlib.Omega.{arith}
-use borrow.Author.Tests.{eq-eqb, ne_eqb, eqb-true, eqb-false, not-true, not-false}
+use borrow.Author.Tests.{eq-eqb, ne_eqb, eqb-true, not-true, not-false}
 use lib.Dec.{T, eqb}
 use lib.ListN.{length, get_or, take, drop, set, length-set, length-drop, drop_of_length-le}
 use lib.Seq.{drop-cons, length-take-le, get_or-take, get_or-set_same, get_or-set_other}

@@ -269,6 +269,7 @@ module _ (n : ℕ) (x : Position) where
       go (inr h) ih = inr (ih (T_true _ h))
 
   stands : (R : List Position) (rest : List ℕ) → wide R → In x R → among (n + 1) (records R ++ rest) (x.slot ∷ x.progress) (length R) ≡ true
+  stands [] rest w x3 = elim x3 [ ]
   stands (y ∷ R) rest w (inl e) = opened y R rest w ∙ rw (← e, same_self (x.slot ∷ x.progress))
   stands (y ∷ R) rest w (inr h) = opened y R rest w ∙ rw (stands R rest (λ z k. w z (inr k)) h) (or-true (same_list (x.slot ∷ x.progress) (y.slot ∷ y.progress)))
 

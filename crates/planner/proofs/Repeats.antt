@@ -1,16 +1,15 @@
 -- The search repeated to its end: what the loop keeps, what each step needs, and what the last one gives.
 use mathlib.Core.Path.{◌≡◌, refl, sym, ap, ◌∙◌}
-use mathlib.Core.Logic.{◌⊎◌, inl, inr}
-use mathlib.Core.Bool.{true, false, cond}
-use mathlib.Core.List.{List, ◌∷◌}
-use Prim.Native.Nat.{ℕ, zero, suc, ◌≤◌, ◌<◌}
+use mathlib.Core.Bool.{true, false}
+use mathlib.Core.List.{List}
+use Prim.Native.Nat.{ℕ, ◌≤◌, ◌<◌}
 use native.Mathlib.Omega.{arith}
 use borrow.Author.Tests.{le-ltb}
-use lib.Dec.{T, eqb, ltb}
-use lib.ListN.{length, get_or, take, replicate}
-use Rattle.rules.specs.Tasks.{Task, Fit, no_task}
+use lib.Dec.{eqb}
+use lib.ListN.{length, replicate}
+use Rattle.rules.specs.Tasks.{Task, Fit}
 use Rattle.rules.specs.Hyper.{hyper}
-use Rattle.rules.specs.Positions.{idle, start}
+use Rattle.rules.specs.Positions.{idle}
 use Rattle.rules.proofs.Laws.{true-T}
 use Rattle.rules.proofs.Lists.{clash-bool}
 use Rattle.rules.proofs.Plan.Ends.{left}
@@ -20,7 +19,7 @@ use Rattle.planner.specs.declared.search.Search.{Search}
 use Rattle.planner.specs.declared.search.Stepped.{Stepped}
 use Rattle.planner.specs.declared.search.Status.{Status}
 use Rattle.planner.specs.declared.search.Status.TheVariants.{Going}
-use Rattle.planner.specs.Rows.{task_at, row_tasks, Laid}
+use Rattle.planner.specs.Rows.{task_at, row_tasks}
 use Rattle.planner.specs.Machine as machine
 use Rattle.planner.specs.Machine.{Machine, is_going, giving, leads_on, pushed, passed_over, step_of, Tries, adds, passes, spent, Took, once, tries, Reaches, ends, steps, opened}
 use Rattle.planner.specs.Views.{status_of, machine_of, Fits, Opening, end_of, Ran}

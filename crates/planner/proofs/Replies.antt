@@ -6,8 +6,7 @@ use Prim.Native.Nat.{ℕ, zero, suc, ◌+◌, ◌≤◌, ◌<◌, ◌/◌}
 use native.Mathlib.Numerals.{add-one}
 use native.Mathlib.Omega.{arith}
 use borrow.Author.Tests.{lt-ltb, le-ltb, not-true, not-false}
-use lib.ListN.{length, get_or, take, drop, replicate}
-use Rattle.rules.specs.Tasks.{no_task}
+use lib.ListN.{length, take, drop, replicate}
 use Rattle.rules.specs.Hyper.{hyper}
 use Rattle.rules.specs.Positions.{Position, start, live_position}
 use Rattle.rules.specs.Records.{or_else, set_in, record_refusal}

@@ -1,5 +1,5 @@
 -- Records in the lent area: each is w numbers, one behind the other.
-use Rattle.std.specs.Prelude.{Bool, false, ◌||◌, List, [], ◌∷◌, ℕ, zero, suc, ◌*◌, take, drop}
+use Rattle.std.specs.Prelude.{Bool, false, ◌||◌, List, ℕ, zero, suc, ◌*◌, take, drop}
 use Rattle.rules.specs.Lists.{same_list}
 
 -- record i of the area

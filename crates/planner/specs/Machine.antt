@@ -1,9 +1,9 @@
 -- The search as a machine: each step adds or takes back one choice of the list under trial, or records one dead position.
-use Rattle.std.specs.Prelude.{Bool, true, false, not, cond, ◌&&◌, List, [], ◌∷◌, ◌++◌, ◌≡◌, ℕ, zero, suc, ◌+◌, ◌-◌, ◌*◌, ◌≤◌, ◌<◌, ltb, eqb, length, get_or, take, drop, set, replicate}
+use Rattle.std.specs.Prelude.{Bool, true, false, not, cond, ◌&&◌, List, ◌∷◌, ◌++◌, ◌≡◌, ℕ, suc, ◌-◌, ◌*◌, ◌≤◌, ◌<◌, ltb, eqb, length, get_or, take, drop, set, replicate}
 use Rattle.rules.specs.Lists.{is_zero}
 use Rattle.rules.specs.Tasks.{Task}
 use Rattle.rules.specs.Hyper.{hyper}
-use Rattle.rules.specs.Positions.{Position, idle, each, ended, next, legal, start}
+use Rattle.rules.specs.Positions.{Position, idle, each, ended, next, legal}
 use Rattle.planner.specs.Marks.{mark, lowered, unstarted, chosen}
 use Rattle.planner.specs.Area.{among}
 

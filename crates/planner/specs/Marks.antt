@@ -1,8 +1,8 @@
 -- The byte that a slot leaves behind during the search: a bit for each task, set where its progress rose in the slot.
 -- With it a choice is taken back, and a list of choices is spelled out at the end.
-use Rattle.std.specs.Prelude.{◌≡◌, Bool, true, false, cond, ◌&&◌, List, [], ◌∷◌, ℕ, zero, suc, ◌+◌, ◌-◌, ◌*◌, ◌%◌, ◌/◌, T, eqb, length, take}
+use Rattle.std.specs.Prelude.{◌≡◌, cond, ◌&&◌, List, [], ◌∷◌, ℕ, suc, ◌+◌, ◌-◌, ◌*◌, ◌%◌, ◌/◌, T, eqb, length, take}
 use Rattle.rules.specs.Tasks.{Task, span, standing, is_ready}
-use Rattle.rules.specs.Positions.{Position, idle, starts, ended, next, each, start}
+use Rattle.rules.specs.Positions.{Position, idle, starts, ended, next, start}
 use Rattle.rules.specs.Choices.{live_from}
 
 -- the lowest bit is the first task's; ps are the progress before the slot and qs at its end

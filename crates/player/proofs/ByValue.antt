@@ -9,24 +9,23 @@ use native.Mathlib.Omega.{arith}
 use lib.Dec.{leb, ltb}
 use lib.ListN.{length, get_or, drop, take, replicate, length-map}
 use borrow.Author.Tests.{le-leb, ltb-true}
-use Rattle.rules.specs.Lists.{tabulate, padded}
+use Rattle.rules.specs.Lists.{padded}
 use Rattle.rules.specs.Tasks.{Task}
 use Rattle.rules.specs.Positions.{Position, idle, each, ended, restarted, next}
-use Rattle.rules.specs.Records.{SetRecord, Arrays, task_in, tasks_in, used, set_in, record_refusal}
+use Rattle.rules.specs.Records.{SetRecord, Arrays, task_in, tasks_in, used, set_in}
 use Rattle.rules.specs.Player as rules
-use Rattle.rules.specs.States.{StateRecord, StateArrays, in_use, form, as_record, TickReply, tick_refused, ticked, tick_refusal, ticked_or, tick_reply}
+use Rattle.rules.specs.States.{StateRecord, StateArrays, in_use, as_record, TickReply, tick_refused, ticked, tick_refusal, ticked_or, tick_reply}
 use Rattle.rules.proofs.Lists.{tabulate-length}
 use Rattle.rules.proofs.Set.Tidy.{counts}
 use Rattle.player.specs.declared.State.{State}
 use Rattle.player.specs.declared.Ticked.{Ticked}
-use Rattle.player.specs.Views.{eight, state_of}
+use Rattle.player.specs.Views.{state_of}
 use Rattle.player.specs.Answers.{tick_answer, ticked_of}
-use Rattle.player.specs.Bytes.{state_size, state_bytes, state_at, readable}
+use Rattle.player.specs.Bytes.{state_size, state_bytes, state_at}
 use Rattle.player.specs.Boundary.{tick_call, tick_number, tick_buffer, tick_faults}
 use Rattle.player.proofs.Arrays.{padded-length}
 use Rattle.player.proofs.Views.{eight-same}
 use Rattle.player.proofs.Codes.{struct-arrays}
-use Rattle.player.proofs.Sizes.{state-size}
 use Rattle.player.proofs.Inverse.{state-back, readable-back}
 use Rattle.player.proofs.Calls.{ticked-first, ticked-last, form-set}
 

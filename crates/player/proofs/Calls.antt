@@ -2,30 +2,23 @@
 use mathlib.Core.Path.{◌≡◌, refl, sym, ap, ◌∙◌}
 use mathlib.Core.Bool.{Bool, true, false, not, cond, ◌&&◌}
 use mathlib.Core.List.{List, ◌++◌}
-use Prim.Native.Nat.{ℕ, zero, suc, ◌+◌, ◌*◌, ◌-◌, ◌≤◌, ◌<◌}
+use Prim.Native.Nat.{ℕ, zero, suc, ◌+◌, ◌*◌, ◌≤◌, ◌<◌}
 use native.Mathlib.Omega.{arith}
 use lib.Dec.{leb, eqb}
-use lib.ListN.{length, take, drop, replicate}
-use lib.Seq.{take_at}
-use borrow.Author.Tests.{eq-eqb, ne_eqb, le-leb, lt-leb, not-true, not-false, eqb-true}
-use Rattle.rules.specs.Lists.{padded}
+use lib.ListN.{length, drop}
+use borrow.Author.Tests.{eq-eqb, ne_eqb, le-leb, lt-leb, eqb-true}
 use Rattle.rules.specs.Positions.{idle}
 use Rattle.rules.specs.Records.{SetRecord, or_else, set_in, record_refusal}
 use Rattle.rules.specs.Player as rules
-use Rattle.rules.specs.States.{StateRecord, in_use, in_use_form, rest_zero, form, tidied, as_record, is_schedule, entry_fits, start_refusal, started_or, start_reply, tick_refused, tick_refusal, ticked_or, tick_reply}
-use Rattle.rules.proofs.Lists.{tabulate-length, clash-bool}
-use Rattle.rules.proofs.Set.Tidy.{counts, set-length}
+use Rattle.rules.specs.States.{StateRecord, in_use, in_use_form, rest_zero, form, tidied, as_record, is_schedule, entry_fits, start_refusal, started_or, start_reply, tick_refused, tick_refusal}
+use Rattle.rules.proofs.Lists.{clash-bool}
 use Rattle.tasks.specs.declared.TaskSet.{TaskSet}
 use Rattle.tasks.specs.Views.{record_of}
-use Rattle.player.specs.declared.State.{State}
 use Rattle.player.specs.declared.Started.{Started}
-use Rattle.player.specs.declared.Ticked.{Ticked}
-use Rattle.player.specs.Views.{eight, state_of}
-use Rattle.player.specs.Answers.{StartAnswer, start_answer, started_of, TickAnswer, tick_answer, ticked_of}
-use Rattle.player.specs.Bytes.{set_size, state_size, state_bytes, set_at, state_at, readable}
+use Rattle.player.specs.Views.{state_of}
+use Rattle.player.specs.Answers.{StartAnswer, start_answer, started_of}
+use Rattle.player.specs.Bytes.{set_size, state_size, state_bytes, set_at}
 use Rattle.player.specs.Boundary.{start_call, start_number, start_buffer, tick_call, tick_number, tick_buffer, tick_faults}
-use Rattle.player.proofs.Inverse.{readable-size}
-use Rattle.player.proofs.Carried.{set-arrays}
 
 -- ── a start ─────────────────────────────────────────────────────────────────
 

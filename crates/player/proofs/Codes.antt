@@ -6,14 +6,13 @@ use Prim.Native.Nat.{ℕ, zero, suc, ◌+◌, ◌*◌, ◌≤◌, ◌/◌, ◌%�
 use native.Mathlib.Numerals.{add-one, add-two}
 use native.Mathlib.Omega.{arith}
 use lib.Dec.{leb}
-use lib.ListN.{length, get_or, set, take, drop, length-append, length-drop, length-set}
+use lib.ListN.{length, get_or, set, drop, length-append, length-drop, length-set}
 use lib.Seq.{sets, length-sets}
-use borrow.Author.Tests.{eq-eqb, ne_eqb, le-leb, lt-leb}
-use Rattle.rules.specs.Lists.{tabulate, all_of}
+use borrow.Author.Tests.{ne_eqb, le-leb, lt-leb}
+use Rattle.rules.specs.Lists.{tabulate}
 use Rattle.rules.specs.Records.{TaskRecord}
 use Rattle.rules.specs.Jobs as model
 use Rattle.rules.specs.States.{StateRecord, StateArrays}
-use Rattle.rules.proofs.Lists.{tabulate-length}
 use Rattle.tasks.specs.declared.Task.{Task}
 use Rattle.tasks.specs.declared.TaskSet.{TaskSet}
 use Rattle.tasks.specs.Views.{no_entry, entry_of, record_of}
@@ -25,7 +24,7 @@ use Rattle.player.proofs.Views.{eight-length, jobs-length}
 use Rattle.player.specs.Views.{stand_of, job_of, no_job, eight, jobs_of, state_of}
 use Rattle.player.specs.Bytes.{state_size, low, high, pair, joined, task_bytes, set_bytes, stand_byte, job_bytes, state_bytes, pair_at, task_at, set_at, stand_of_byte, job_at, state_at, readable}
 use Rattle.player.proofs.Sizes.{pair_size, task-size, set-size, after_jobs, after_planned, after_slot, after_set, parts, planned-size, jobs-size, state-size}
-use Rattle.player.proofs.Places.{tabulate-same, tabulate-few, joined-single, sets-next, sets-all}
+use Rattle.player.proofs.Places.{tabulate-same, joined-single, sets-next, sets-all}
 
 -- ── reading ─────────────────────────────────────────────────────────────────
 

@@ -1,28 +1,23 @@
 -- Laws of a look at one task, test by test, as the code makes them: its time, its planned progress, its job, its choice and the slot's end.
 use mathlib.Core.Path.{◌≡◌, refl, sym, ap, ◌∙◌}
 use mathlib.Core.Bool.{Bool, true, false, not, cond, ◌&&◌, and-true, and-false, or-true, and_assoc}
-use mathlib.Core.List.{List, ◌++◌}
+use mathlib.Core.List.{List}
 use Prim.Native.Nat.{ℕ, zero, suc, ◌+◌, ◌*◌, ◌-◌, ◌%◌, ◌≤◌, ◌<◌}
 use native.Mathlib.Nat.{min-le_left, min-le_right}
 use native.Mathlib.Numerals.{add-one}
 use native.Mathlib.Omega.{arith}
 use borrow.Author.Tests.{lt-ltb, le-ltb, le-leb, lt-leb, eq-eqb, ne_eqb}
 use lib.Dec.{leb, ltb, eqb}
-use lib.ListN.{length, get_or, take, drop, replicate, length-take}
+use lib.ListN.{length, get_or, take, length-take}
 use lib.Seq.{get_or-take}
 use Rattle.rules.specs.Lists.{tabulate, is_zero}
 use Rattle.rules.specs.Tasks.{Task, written}
 use Rattle.rules.specs.Positions.{idle}
 use Rattle.rules.specs.Records.{pattern_of, task_in}
 use Rattle.rules.specs.Jobs.{Job}
-use Rattle.rules.specs.States.{blank_set, blank_task, blank_job, blank_state, job_form_in, job_form}
+use Rattle.rules.specs.States.{job_form_in, job_form}
 use Rattle.rules.proofs.Lists.{tabulate-at, tabulate-length}
-use Rattle.tasks.specs.declared.Task as tasks
-use Rattle.tasks.specs.declared.TaskSet.{TaskSet}
-use Rattle.tasks.specs.Views.{entry_of, record_of}
-use Rattle.player.specs.declared.Job as code
-use Rattle.player.specs.Views.{job_of, eight, jobs_of, state_of}
-use Rattle.player.specs.Bytes.{task_at, set_bytes, stand_of_byte, job_at}
+use Rattle.player.specs.Bytes.{task_at, stand_of_byte, job_at}
 use Rattle.player.specs.Looks.{record_for, task_for, job_for, stand_for, lasts, plan_fits, may_run, end_of, well_on, is_choice}
 use Rattle.player.proofs.Tests.{not-zero, is-zero, zero_test}
 

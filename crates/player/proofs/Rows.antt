@@ -2,7 +2,7 @@
 use mathlib.Core.Path.{◌≡◌, refl, ap, ◌∙◌}
 use mathlib.Core.List.{List, ◌∷◌, map}
 use Prim.Native.Nat.{ℕ, zero, suc, ◌≤◌}
-use lib.ListN.{get_or, take}
+use lib.ListN.{get_or}
 use Rattle.rules.specs.Lists.{tabulate}
 use Rattle.rules.specs.Records.{task_in, tasks_in, used, set_in}
 use Rattle.rules.specs.States.{in_use}

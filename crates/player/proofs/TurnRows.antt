@@ -18,7 +18,7 @@ use Rattle.rules.specs.Records.{task_in, task_refusal}
 use Rattle.rules.specs.Jobs as model
 use Rattle.rules.specs.Jobs.{reported, begun, owned_by, code, new_fault, Turn, turn}
 use Rattle.rules.specs.States.{units_tidy, job_form}
-use Rattle.rules.proofs.Laws.{T_true, true-T, T_and, le-or-lt}
+use Rattle.rules.proofs.Laws.{true-T, T_and, le-or-lt}
 use Rattle.rules.proofs.Lists.{clash-bool, and_parts}
 use Rattle.rules.proofs.Set.Admitted.{task_refusal-good}
 use Rattle.rules.proofs.Play.Lanes.{turn-runs}

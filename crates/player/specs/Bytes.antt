@@ -1,8 +1,8 @@
 -- The byte strings in which a task set and a player state travel: docs/STATE.md. Numbers of 16 bits have their low byte first.
-use Rattle.std.specs.Prelude.{Bool, true, false, cond, ◌&&◌, List, [], ◌∷◌, ◌++◌, ℕ, zero, suc, ◌+◌, ◌*◌, ◌%◌, ◌/◌, leb, eqb, length, get_or, take, drop}
+use Rattle.std.specs.Prelude.{Bool, ◌&&◌, List, [], ◌∷◌, ◌++◌, ℕ, zero, suc, ◌+◌, ◌*◌, ◌%◌, ◌/◌, leb, eqb, length, get_or}
 use Rattle.rules.specs.Lists.{tabulate, all_of}
 use Rattle.rules.specs.Records.{TaskRecord, SetRecord}
-use Rattle.rules.specs.Jobs.{Cause, overrun, late, untrue, Stand, Ready, Waiting, Done, Stopped, Job}
+use Rattle.rules.specs.Jobs.{overrun, late, untrue, Stand, Ready, Waiting, Done, Stopped, Job}
 use Rattle.rules.specs.States.{StateRecord}
 
 -- ── sizes ───────────────────────────────────────────────────────────────────

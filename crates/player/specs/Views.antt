@@ -1,5 +1,5 @@
 -- What the player's structs stand for in the rules. Arrays are read by place.
-use Rattle.std.specs.Prelude.{ℕ, List, [], get_or}
+use Rattle.std.specs.Prelude.{ℕ, List, get_or}
 use Rattle.rules.specs.Lists.{tabulate}
 use Rattle.rules.specs.Jobs as model
 use Rattle.rules.specs.States.{StateRecord}

@@ -1,10 +1,10 @@
 -- Document 01, "Program `plan`": the text that it writes for a list.
-use Rattle.std.specs.Prelude.{◌≡◌, cond, List, [], ◌∷◌, ◌++◌, ℕ, zero, suc, ◌+◌, eqb, length, take, replicate}
+use Rattle.std.specs.Prelude.{◌≡◌, cond, List, [], ◌∷◌, ◌++◌, ℕ, suc, ◌+◌, eqb, take, replicate}
 use Rattle.rules.specs.Lists.{is_zero}
 use Rattle.rules.specs.Hyper.{hyper}
 use Rattle.rules.specs.Positions.{idle}
 use Rattle.rules.specs.Records.{set_in}
-use Rattle.rules.specs.Planner.{Word, schedule, infeasible, out_of_room, Answer, refused, answered, PlanReply}
+use Rattle.rules.specs.Planner.{Word, schedule, infeasible, out_of_room, answered, PlanReply}
 use Rattle.list.specs.Reading.{read_list}
 use Rattle.list.specs.Plain.{digits_in}
 

@@ -1,9 +1,9 @@
 -- The promises of the rules, each in one place under one name. The proofs are in the files beside this one.
 use mathlib.Core.Path.{◌≡◌, refl, sym, ap₂, ◌∙◌}
-use mathlib.Core.Logic.{◌⊎◌, inl, inr, ◌↔◌, ◌≢◌}
+use mathlib.Core.Logic.{◌↔◌, ◌≢◌}
 use mathlib.Core.Bool.{Bool}
-use mathlib.Core.List.{List, []}
-use Prim.Native.Nat.{ℕ, zero, suc, ◌+◌, ◌*◌, ◌≤◌, ◌<◌, ◌/◌, ◌∣◌}
+use mathlib.Core.List.{List}
+use Prim.Native.Nat.{ℕ, zero, suc, ◌≤◌, ◌<◌, ◌/◌, ◌∣◌}
 use native.Mathlib.Omega.{arith}
 use native.Mathlib.Nat.{le-div_iff_mul-le, mul-div-le, mul_comm, dvd-zero}
 use lib.Dec.{T}
@@ -15,7 +15,7 @@ use Rattle.rules.specs.Positions.{Position, start}
 use Rattle.rules.specs.Choices.{run, Schedule, Counted}
 use Rattle.rules.specs.Endless.{Endless}
 use Rattle.rules.specs.Records.{SetRecord, Arrays, set_in}
-use Rattle.rules.specs.Planner.{room, Precede, Word, out_of_room, Verdict, no_room, found, failed, Reply, Planned, plan_refusal, Answer, refused, answered, PlanReply, refuses, plans, Outcome, AnyPlanner, Right}
+use Rattle.rules.specs.Planner.{room, Precede, Word, out_of_room, Verdict, no_room, found, failed, Reply, Planned, plan_refusal, Answer, answered, PlanReply, refuses, plans, Outcome, Right}
 use Rattle.rules.specs.Condition2.{Condition2}
 use Rattle.rules.specs.States.{StateRecord, StateArrays, form, tick_reply, ticked}
 use Rattle.rules.specs.Condition3.{Out, report_on, fault_on, gets_slot, Condition3, Reached, Given}

@@ -1,5 +1,5 @@
 -- Document 01, "Positions and choices": lists of choices, their order, schedules and dead positions.
-use Rattle.std.specs.Prelude.{◌≡◌, Bool, true, false, ◌&&◌, ◌||◌, List, [], ◌∷◌, ℕ, ◌+◌, ◌-◌, ◌<◌, T, ltb, eqb, length, take}
+use Rattle.std.specs.Prelude.{◌≡◌, Bool, true, false, ◌&&◌, ◌||◌, List, [], ◌∷◌, ℕ, ◌+◌, ◌<◌, T, ltb, eqb, length, take}
 use Rattle.rules.specs.Tasks.{Task}
 use Rattle.rules.specs.Hyper.{hyper}
 use Rattle.rules.specs.Positions.{Position, next, live_position, legal, start}

@@ -1,5 +1,5 @@
 -- Corners of the refusals, the form of a state and the tick, each with the reply that document 01 gives it.
-use Rattle.std.specs.Prelude.{Bool, true, false, List, [], ◌∷◌, ℕ, ◌-◌, eqb, replicate}
+use Rattle.std.specs.Prelude.{Bool, true, false, List, [], ◌∷◌, ℕ, eqb, replicate}
 use Rattle.rules.specs.Lists.{same_lists, padded}
 use Rattle.rules.specs.Records.{SetRecord, record_refusal}
 use Rattle.rules.specs.Jobs.{late, Stand, Ready, Waiting, Done, Stopped, Job}

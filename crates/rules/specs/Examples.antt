@@ -1,5 +1,5 @@
 -- The settled examples of document 01 marked P, planner and player, in one table under one statement.
-use Rattle.std.specs.Prelude.{◌≡◌, List, [], ◌∷◌, ◌++◌, ℕ, ◌+◌, T, length, drop}
+use Rattle.std.specs.Prelude.{◌≡◌, List, [], ◌∷◌, ◌++◌, ℕ, T, length, drop}
 use Rattle.rules.specs.Tasks.{Task}
 use Rattle.rules.specs.Hyper.{hyper}
 use Rattle.rules.specs.Planner.{Word, schedule, infeasible, out_of_room, Reply, Planned}

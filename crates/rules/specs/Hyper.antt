@@ -1,5 +1,5 @@
 -- Document 01, "Task set": the hyper-period.
-use Rattle.std.specs.Prelude.{List, [], ◌∷◌, ℕ, zero, suc, ◌*◌, ◌-◌, ◌%◌, ◌/◌}
+use Rattle.std.specs.Prelude.{List, [], ◌∷◌, ℕ, zero, suc, ◌*◌, ◌%◌, ◌/◌}
 use Rattle.rules.specs.Tasks.{Task}
 
 -- The greatest common divisor by a falling remainder, and the least common multiple of the periods

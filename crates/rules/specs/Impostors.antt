@@ -1,5 +1,5 @@
 -- Players and planners that do not do their work: document 01, "Strength of the statements".
-use Rattle.std.specs.Prelude.{cond, List, [], ◌∷◌, ℕ, suc, ◌-◌, ◌%◌, T, ltb, eqb, length, get_or, replicate}
+use Rattle.std.specs.Prelude.{cond, List, [], ◌∷◌, ℕ, suc, ◌%◌, ltb, eqb, length, get_or, replicate}
 use Rattle.rules.specs.Tasks.{Task, no_task}
 use Rattle.rules.specs.Hyper.{hyper}
 use Rattle.rules.specs.Positions.{idle}

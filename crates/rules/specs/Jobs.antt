@@ -1,5 +1,5 @@
 -- Document 01, "The player": one task's turn at a tick.
-use Rattle.std.specs.Prelude.{Bool, true, false, cond, ◌&&◌, ℕ, zero, suc, ◌+◌, ◌-◌, ltb, eqb, length}
+use Rattle.std.specs.Prelude.{Bool, true, false, cond, ◌&&◌, ℕ, zero, suc, ◌+◌, ltb, eqb, length}
 use Rattle.rules.specs.Tasks.{Task, written, place_of}
 use Rattle.rules.specs.Positions.{starts}
 

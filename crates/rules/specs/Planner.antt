@@ -1,5 +1,5 @@
 -- The planner's reply, as a relation over set, table and area: document 01, "The planner's reply".
-use Rattle.std.specs.Prelude.{◌≡◌, List, [], ◌∷◌, ◌++◌, ℕ, suc, ◌+◌, ◌*◌, ◌≤◌, ◌<◌, ◌/◌, length, drop, replicate, cond, ltb}
+use Rattle.std.specs.Prelude.{◌≡◌, List, [], ◌∷◌, ◌++◌, ℕ, suc, ◌*◌, ◌≤◌, ◌<◌, ◌/◌, length, drop, replicate, cond, ltb}
 use Rattle.rules.specs.Lists.{In, Distinct}
 use Rattle.rules.specs.Tasks.{Task}
 use Rattle.rules.specs.Hyper.{hyper}

@@ -1,5 +1,5 @@
 -- Document 01, "The player": a tick of all tasks.
-use Rattle.std.specs.Prelude.{cond, ◌&&◌, List, ℕ, suc, ◌-◌, ◌%◌, ltb, eqb, length, get_or, replicate}
+use Rattle.std.specs.Prelude.{cond, ◌&&◌, List, ℕ, suc, ◌%◌, ltb, eqb, length, get_or, replicate}
 use Rattle.rules.specs.Lists.{tabulate}
 use Rattle.rules.specs.Tasks.{Task, no_task}
 use Rattle.rules.specs.Hyper.{hyper}

@@ -1,5 +1,5 @@
 -- Document 01, "Positions and choices": what a slot does, and which positions are live.
-use Rattle.std.specs.Prelude.{Bool, true, not, cond, ◌&&◌, ◌||◌, List, [], ◌∷◌, ℕ, suc, ◌+◌, ◌-◌, ◌%◌, eqb, length, get_or, replicate, ℤ, pos, ◌-ℤ◌}
+use Rattle.std.specs.Prelude.{Bool, true, not, cond, ◌&&◌, ◌||◌, List, [], ◌∷◌, ℕ, suc, ◌%◌, eqb, length, get_or, replicate, ℤ, pos, ◌-ℤ◌}
 use Rattle.std.specs.Int.Signed.{non_neg}
 use Rattle.rules.specs.Tasks.{Task, no_task, span, Standing, waiting, done, ready, standing, is_ready, is_done}
 

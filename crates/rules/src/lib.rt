@@ -1,1 +1,3 @@
+#![tactic(auto)]
+
 // The rules alone: definitions in specs/, theorems in proofs/. No code.

@@ -1,11 +1,9 @@
 -- The views by place: how many tasks a set has and which, and how many entries a pattern has and which.
-use mathlib.Core.Path.{◌≡◌, refl, sym, ap, ◌∙◌}
-use mathlib.Core.List.{List, map}
-use Prim.Native.Nat.{ℕ, suc, ◌+◌, ◌-◌, ◌≤◌, ◌<◌}
+use mathlib.Core.Path.{◌≡◌, ap, ◌∙◌}
+use Prim.Native.Nat.{ℕ, ◌+◌, ◌-◌, ◌≤◌, ◌<◌}
 use native.Mathlib.Omega.{arith}
-use lib.ListN.{length, get_or, take, length-map, get_or-map}
+use lib.ListN.{length, get_or, length-map, get_or-map}
 use lib.Seq.{get_or-take, length-take-le, take_all}
-use Rattle.rules.specs.Lists.{tabulate}
 use Rattle.rules.specs.Tasks.{no_task}
 use Rattle.rules.specs.Records.{TaskRecord, Arrays, pattern_of, task_in, tasks_in, no_record, used, set_in}
 use Rattle.rules.proofs.Lists.{tabulate-at, tabulate-length}

@@ -10,7 +10,7 @@ use Rattle.rules.specs.Hyper.{hyper}
 use Rattle.rules.specs.Positions.{Position, idle}
 use Rattle.rules.specs.Endless.{beginning}
 use Rattle.rules.specs.Records.{SetRecord, Arrays, set_in}
-use Rattle.rules.specs.Planner.{room, Precede, Word, schedule, Verdict, no_room, found, failed, Reply, Planned, plan_refusal, Answer, answered, PlanReply, refuses, plans}
+use Rattle.rules.specs.Planner.{room, Precede, Word, Verdict, no_room, found, failed, Reply, Planned, plan_refusal, Answer, answered, PlanReply, refuses, plans}
 use Rattle.rules.specs.Condition2.{Condition2}
 use Rattle.rules.proofs.Set.Multiple.{hyper-dvd, hyper-pos}
 use Rattle.rules.proofs.Set.Tidy.{set-fit}

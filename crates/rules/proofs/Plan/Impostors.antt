@@ -2,12 +2,12 @@
 use mathlib.Core.Path.{◌≡◌, refl, sym, ap, ap₂, ◌∙◌, subst}
 use mathlib.Core.Bool.{Bool}
 use mathlib.Core.List.{List, [], ◌∷◌, ◌++◌}
-use Prim.Native.Nat.{ℕ, zero, suc, ◌+◌, ◌-◌, ◌<◌}
+use Prim.Native.Nat.{ℕ, zero, suc, ◌<◌}
 use native.Mathlib.Omega.{arith}
 use lib.Dec.{T, eqb, eqb→eq}
 use lib.ListN.{length, get_or, drop}
 use Rattle.rules.specs.Lists.{all_of, open_lists}
-use Rattle.rules.specs.Hyper.{hyper, open_hyper}
+use Rattle.rules.specs.Hyper.{hyper}
 use Rattle.rules.specs.Records.{TaskRecord, no_record, SetRecord, Arrays, set_in, open_records}
 use Rattle.rules.specs.Planner.{Word, schedule, infeasible, Planned, plan_refusal, refused, answered, plans, AnyPlanner, Right}
 use Rattle.rules.specs.States.{open_states}

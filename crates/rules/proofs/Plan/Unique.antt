@@ -3,7 +3,7 @@ use mathlib.Core.Path.{◌≡◌, refl, sym, ap, ap₂, ◌∙◌}
 use mathlib.Core.Logic.{◌⊎◌, inl, inr, ◌≢◌}
 use mathlib.Core.Bool.{Bool, true, false}
 use mathlib.Core.List.{List, [], ◌∷◌, ◌++◌}
-use Prim.Native.Nat.{ℕ, suc, ◌+◌, ◌*◌, ◌-◌, ◌≤◌, ◌<◌}
+use Prim.Native.Nat.{ℕ, suc, ◌*◌, ◌≤◌, ◌<◌}
 use native.Mathlib.Omega.{arith}
 use lib.Dec.{T}
 use lib.ListN.{length, drop, length-append}
@@ -13,7 +13,7 @@ use Rattle.rules.specs.Tasks.{Task}
 use Rattle.rules.specs.Hyper.{hyper}
 use Rattle.rules.specs.Positions.{Position, start}
 use Rattle.rules.specs.Choices.{before, First, Counted}
-use Rattle.rules.specs.Planner.{records, room, Precede, Word, schedule, out_of_room, Verdict, no_room, found, failed, Reply, Planned}
+use Rattle.rules.specs.Planner.{records, room, Precede, Word, out_of_room, Verdict, no_room, found, failed, Reply, Planned}
 use Rattle.rules.proofs.Laws.{true-T, le-or-lt}
 use Rattle.rules.proofs.Run.Reach.{run_length, start-length}
 use Rattle.rules.proofs.Plan.Decide.{In-left, In-right, In-append, cons-before}

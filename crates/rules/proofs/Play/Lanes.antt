@@ -2,18 +2,17 @@
 use mathlib.Core.Path.{◌≡◌, refl, sym, ap, ap₂, ◌∙◌}
 use mathlib.Core.Bool.{Bool, true, false, cond, ◌&&◌}
 use mathlib.Core.List.{List}
-use Prim.Native.Nat.{ℕ, zero, suc, ◌+◌, ◌*◌, ◌-◌, ◌≤◌, ◌<◌, ◌%◌}
+use Prim.Native.Nat.{ℕ, zero, suc, ◌+◌, ◌*◌, ◌≤◌, ◌<◌, ◌%◌}
 use native.Mathlib.Omega.{arith}
 use native.Mathlib.Nat.{mod-mod_of_dvd, suc-mod, zero-mod}
 use borrow.Author.Tests.{eqb-true, eq-eqb, ne_eqb, lt-ltb}
 use lib.Dec.{ltb, eqb}
 use lib.ListN.{length, get_or, length-replicate, get_or-replicate}
-use Rattle.rules.specs.Lists.{tabulate}
 use Rattle.rules.specs.Tasks.{Fit, Task, span, standing, no_task}
 use Rattle.rules.specs.Hyper.{hyper}
 use Rattle.rules.specs.Positions.{moved, passed, starts, idle, next}
 use Rattle.rules.specs.Choices.{Schedule}
-use Rattle.rules.specs.Endless.{repeated, at, ending, progress_of}
+use Rattle.rules.specs.Endless.{repeated, ending, progress_of}
 use Rattle.rules.specs.Jobs.{Job, finished, turn, begun}
 use Rattle.rules.specs.Player.{State, fresh, turn_of, runner_of, tick}
 use Rattle.rules.proofs.Laws.{is_done-span}

@@ -8,7 +8,6 @@ use native.Mathlib.Omega.{arith}
 use borrow.Author.Tests.{ltb-true}
 use lib.Dec.{ltb, eqb}
 use lib.ListN.{length, get_or}
-use Rattle.rules.specs.Lists.{tabulate}
 use Rattle.rules.specs.Tasks.{Fit, Task, no_task, Shape, written}
 use Rattle.rules.specs.Hyper.{hyper}
 use Rattle.rules.specs.Positions.{idle}

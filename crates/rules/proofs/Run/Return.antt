@@ -1,8 +1,8 @@
 -- After a schedule the position is the start again.
 use mathlib.Core.Path.{◌≡◌, refl, sym, ap, ◌∙◌}
-use mathlib.Core.Bool.{true, cond}
+use mathlib.Core.Bool.{true}
 use mathlib.Core.List.{List, [], ◌∷◌, ◌++◌}
-use Prim.Native.Nat.{ℕ, zero, suc, ◌+◌, ◌-◌, ◌≤◌, ◌<◌, ◌%◌, ◌∣◌}
+use Prim.Native.Nat.{ℕ, suc, ◌-◌, ◌<◌, ◌%◌}
 use native.Mathlib.Omega.{arith}
 use native.Mathlib.Nat.{mod-eq-zero_of_dvd}
 use borrow.Author.Tests.{eq-eqb}
@@ -10,7 +10,7 @@ use lib.ListN.{length, get_or, take, get_or-replicate}
 use lib.Seq.{length-take-le, take-suc, take_all, ext_get_or}
 use Rattle.rules.specs.Tasks.{Task, Fit, no_task}
 use Rattle.rules.specs.Hyper.{hyper}
-use Rattle.rules.specs.Positions.{Position, idle, starts, next, start}
+use Rattle.rules.specs.Positions.{idle, starts, start}
 use Rattle.rules.specs.Choices.{run, Schedule}
 use Rattle.rules.proofs.Set.Multiple.{hyper-dvd, hyper-pos}
 use Rattle.rules.proofs.Run.Reach.{run-slot, run_length, start-length, next-at}

@@ -1,5 +1,4 @@
 -- `tasks::pattern::fields` is the number of the pattern's entries. Assumes nothing.
-use borrow.Author.Rules.{rules}
 use native.Mathlib.Omega.{arith}
 use Rattle.tasks.proofs.Views.{pattern-few, pattern-all}
 use Rattle.tasks.proofs.pattern.fields.Goals as goal

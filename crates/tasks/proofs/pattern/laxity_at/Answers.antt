@@ -2,11 +2,10 @@
 use mathlib.Core.Path.{ap, ◌∙◌}
 use lib.IntN.{pos, ◌-ℤ◌}
 use native.Mathlib.Omega.{arith}
-use borrow.Author.Rules.{rules}
 use Rattle.rules.specs.Records.{task_in}
 use Rattle.rules.specs.Positions.{laxity}
 use Rattle.tasks.specs.Views.{entry_of, task_of}
-use Rattle.tasks.proofs.OneTask.{difference-fits, differences-fit, differences}
+use Rattle.tasks.proofs.OneTask.{differences}
 use Rattle.tasks.proofs.pattern.laxity_at.Goals as goal
 
 pub returns : goal.returns

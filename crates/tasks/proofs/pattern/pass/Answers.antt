@@ -1,7 +1,4 @@
 -- `tasks::pattern::pass` says how a task ends the slot, and its progress in the next. Assumes nothing.
-use native.Mathlib.Nat.{mod-le}
-use native.Mathlib.Omega.{arith}
-use borrow.Author.Rules.{rules}
 use Rattle.rules.specs.Records.{task_in}
 use Rattle.tasks.specs.Views.{entry_of, task_of}
 use Rattle.tasks.proofs.Slotwise.{pass-over, pass-amid}

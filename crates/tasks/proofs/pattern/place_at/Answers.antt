@@ -1,10 +1,9 @@
 -- `tasks::pattern::place_at` is the place of progress. The invariant: the place is the entries passed and the place of what is left in the rest. Assumes nothing.
 use borrow.Author.Rules.{rules}
-use Prim.Native.Nat.{◌+◌, ◌-◌, ◌≤◌, ℕ}
-use mathlib.Core.Path.{◌≡◌, ap}
+use Prim.Native.Nat.{ℕ}
+use mathlib.Core.Path.{ap}
 use native.Mathlib.Omega.{arith}
 use mathlib.Core.List.{List}
-use lib.ListN.{length, take, drop}
 use Rattle.rules.specs.Tasks.{place_of}
 use Rattle.tasks.proofs.OneTask.{pattern-short, pattern-take, place-more, place_here, place_end}
 use Rattle.tasks.proofs.pattern.place_at.Goals as goal

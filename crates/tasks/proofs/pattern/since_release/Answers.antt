@@ -1,7 +1,6 @@
 -- `tasks::pattern::since_release` is the slot modulo the period. Assumes nothing.
 use mathlib.Core.Path.{refl, sym}
 use native.Mathlib.Nat.{mod-zero}
-use borrow.Author.Rules.{rules}
 use Rattle.rules.specs.Records.{task_in}
 use Rattle.tasks.specs.Views.{entry_of, task_of}
 use Rattle.tasks.proofs.pattern.since_release.Goals as goal

@@ -1,7 +1,6 @@
 -- `tasks::pattern::standing_at` is where progress stands, read off its place. Assumes nothing.
 use mathlib.Core.Path.{sym}
 use native.Mathlib.Omega.{arith}
-use borrow.Author.Rules.{rules}
 use Rattle.tasks.specs.Views.{task_of, standing_of}
 use Rattle.tasks.proofs.OneTask.{stands-done, stands-ready, stands-waiting}
 use Rattle.tasks.proofs.pattern.standing_at.Goals as goal

@@ -1,7 +1,6 @@
 -- `tasks::pattern::starts_at` says whether the period divides the slot. Assumes nothing.
 use mathlib.Core.Path.{ap}
 use lib.Dec.{eqb}
-use borrow.Author.Rules.{rules}
 use Rattle.rules.specs.Positions.{starts}
 use Rattle.tasks.proofs.pattern.starts_at.Goals as goal
 

@@ -1,7 +1,6 @@
 -- `tasks::pattern::starts_well` says whether a job that ends well starts again well. Assumes nothing.
-use borrow.Author.Rules.{rules}
 use Rattle.tasks.specs.Views.{task_of}
-use Rattle.tasks.proofs.Slotwise.{starts-ill, starts-undone, starts-done}
+use Rattle.tasks.proofs.Slotwise.{starts-undone, starts-done}
 use mathlib.Core.Path.{ap}
 use mathlib.Core.Bool.{not}
 use Rattle.tasks.proofs.pattern.starts_well.Goals as goal

@@ -1,7 +1,6 @@
 -- `tasks::pattern::units_at` is the entry in use at a place, 0 beyond them. Assumes nothing.
 use native.Mathlib.Omega.{arith}
-use borrow.Author.Rules.{rules}
-use Rattle.tasks.proofs.OneTask.{pattern-short, entry_read, entry-beyond}
+use Rattle.tasks.proofs.OneTask.{pattern-short, entry_read}
 use Rattle.tasks.proofs.pattern.units_at.Goals as goal
 
 pub bounds-p-i : goal.bounds-p-i

@@ -1,13 +1,8 @@
 -- `tasks::pattern::whole` is the sum of the pattern. The invariant: what is summed and what is left make the whole. Assumes nothing.
-use borrow.Author.Rules.{rules}
 use Prim.Native.Nat.{◌+◌, ◌-◌, ◌*◌, ◌≤◌}
-use mathlib.Core.Path.{◌≡◌, ap}
-use native.Mathlib.Omega.{arith}
-use lib.ListN.{length, get_or, take, drop}
-use mir.Syntax.{w8}
-use mir.Val.{Fits}
-use Rattle.rules.specs.Tasks.{sum, span}
-use Rattle.tasks.proofs.OneTask.{pattern-short, pattern-take, sum_more, sum-end}
+use mathlib.Core.Path.{◌≡◌}
+use lib.ListN.{length, take, drop}
+use Rattle.rules.specs.Tasks.{sum}
 use Rattle.tasks.proofs.pattern.whole.Given as goal
 
 abbrev pub invariant-loop-i : goal.invariant-loop-i

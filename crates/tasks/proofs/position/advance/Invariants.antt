@@ -1,8 +1,6 @@
 -- `tasks::position::advance` says whether the choice is legal, and the progress that it leads to. The loop's invariant: the tasks before place i are taken on. Assumes nothing.
-use borrow.Author.Rules.{rules}
 use Prim.Native.Nat.{◌-◌}
-use Rattle.rules.specs.Positions.{passed}
-use Rattle.tasks.proofs.Slotwise.{Through, through-start, through-step, through-end}
+use Rattle.tasks.proofs.Slotwise.{Through}
 use Rattle.tasks.proofs.position.advance.Given as goal
 
 abbrev pub invariant-loop-i : goal.invariant-loop-i

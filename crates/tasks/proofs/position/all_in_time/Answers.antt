@@ -1,12 +1,9 @@
 -- `tasks::position::all_in_time` is the test that a position is live. The loop's invariant: the tests from place i on tell of all. Assumes nothing.
 use borrow.Author.Rules.{rules}
-use mathlib.Core.Bool.{Bool, not}
-use Prim.Native.Nat.{ℕ, ◌-◌, ◌%◌}
-use Rattle.rules.specs.Tasks.{Task}
-use Rattle.rules.specs.Positions.{in_time, live_position}
+use mathlib.Core.Bool.{not}
+use Rattle.rules.specs.Positions.{live_position}
 use Rattle.tasks.specs.Views.{position_of}
-use Rattle.tasks.proofs.Positions.{Tests, tests-start, tests-step, tests-fail, tests-pass}
-use Rattle.tasks.proofs.position.all_in_time.Invariants.{timely}
+use Rattle.tasks.proofs.Positions.{tests-start, tests-step, tests-fail, tests-pass}
 use mathlib.Core.Path.{ap}
 use Rattle.tasks.proofs.position.all_in_time.Goals as goal
 

@@ -1,13 +1,9 @@
 -- `tasks::set::first_refusal` is the first refusal among the tasks in use. The invariant: it is that of the tasks from `i` on. The measure is what is left.
-use borrow.Author.Rules.{rules}
-use native.Mathlib.Omega.{arith}
-use mathlib.Core.Path.{◌≡◌, refl, sym, ◌∙◌}
+use mathlib.Core.Path.{◌≡◌}
 use Prim.Native.Nat.{◌-◌, ◌≤◌}
 use lib.ListN.{length, drop}
 use Rattle.rules.specs.Records.{tasks_refusal, used}
 use Rattle.tasks.specs.Views.{record_of, set_of}
-use Rattle.tasks.proofs.Multiple.{set-within}
-use Rattle.tasks.proofs.Refusal.{first-here, first_next, first-end}
 use Rattle.tasks.proofs.set.first_refusal.Given as goal
 
 abbrev pub invariant-loop-i : goal.invariant-loop-i

@@ -1,12 +1,9 @@
 -- `tasks::set::hyper_period` is the set's hyper-period with its bound. The invariant: `h` is that of the tasks from `i` on. The measure is `i`.
-use borrow.Author.Rules.{rules}
-use native.Mathlib.Omega.{arith}
 use mathlib.Core.Path.{◌≡◌}
-use Prim.Native.Nat.{◌-◌, ◌≤◌}
+use Prim.Native.Nat.{◌≤◌}
 use lib.ListN.{length, drop}
 use Rattle.rules.specs.Hyper.{hyper}
 use Rattle.tasks.specs.Views.{set_of, bounded}
-use Rattle.tasks.proofs.Multiple.{set-within, hyper-start, hyper-step}
 use Rattle.tasks.proofs.set.hyper_period.Given as goal
 
 abbrev pub invariant-loop-i : goal.invariant-loop-i

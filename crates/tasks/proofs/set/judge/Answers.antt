@@ -1,5 +1,4 @@
 -- `tasks::set::judge` is the set's refusal and its hyper-period with its bound. Assumes nothing.
-use borrow.Author.Rules.{rules}
 use Rattle.tasks.proofs.Refusal.{set-laws}
 use Rattle.tasks.proofs.set.judge.Goals as goal
 

@@ -1,8 +1,6 @@
 -- `tasks::set::multiple` is the least common multiple with its bound. Assumes nothing.
-use borrow.Author.Rules.{rules}
-use native.Mathlib.Omega.{arith}
 use native.Mathlib.Nat.{pos_of_ne-zero}
-use Rattle.tasks.proofs.Multiple.{divisor-pos, multiple-fits, multiple-none, multiple-many, multiple-few}
+use Rattle.tasks.proofs.Multiple.{divisor-pos, multiple-none, multiple-many, multiple-few}
 use Rattle.tasks.proofs.set.multiple.Goals as goal
 
 pub returns-then-a-eq0 : goal.returns-then-a-eq0

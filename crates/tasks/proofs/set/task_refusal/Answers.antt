@@ -1,5 +1,4 @@
 -- `tasks::set::task_refusal` is the refusal of one task. Assumes nothing.
-use borrow.Author.Rules.{rules}
 use Rattle.tasks.proofs.Refusal.{task-laws}
 use Rattle.tasks.proofs.set.task_refusal.Goals as goal
 

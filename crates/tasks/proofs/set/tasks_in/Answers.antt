@@ -1,5 +1,4 @@
 -- `tasks::set::tasks_in` is the number of the set's tasks. Assumes nothing.
-use borrow.Author.Rules.{rules}
 use native.Mathlib.Omega.{arith}
 use Rattle.tasks.proofs.Views.{set-few, set_all}
 use Rattle.tasks.proofs.set.tasks_in.Goals as goal

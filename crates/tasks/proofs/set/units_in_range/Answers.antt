@@ -2,8 +2,6 @@
 -- Assumes nothing.
 use borrow.Author.Rules.{rules}
 use native.Mathlib.Omega.{arith}
-use mathlib.Core.Path.{◌≡◌}
-use Prim.Native.Nat.{ℕ, ◌-◌, ◌≤◌, ◌<◌}
 use borrow.Author.Count.{below_none, below_more}
 use lib.ListN.{get_or}
 use mir.Syntax.{w8}

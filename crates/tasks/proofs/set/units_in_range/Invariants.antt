@@ -1,13 +1,7 @@
 -- `tasks::set::units_in_range` is whether every entry in use is in its range. The invariant: no entry passed is 0. The measure is what is left.
-use borrow.Author.Rules.{rules}
-use native.Mathlib.Omega.{arith}
 use mathlib.Core.Path.{◌≡◌}
 use Prim.Native.Nat.{ℕ, ◌-◌, ◌≤◌, ◌<◌}
-use borrow.Author.Count.{below_none, below_more}
 use lib.ListN.{get_or}
-use mir.Syntax.{w8}
-use mir.Val.{Fits}
-use Rattle.tasks.proofs.Refusal.{fields_within, units-no, units-yes}
 use Rattle.tasks.proofs.set.units_in_range.Given as goal
 
 abbrev pub invariant-loop-i : goal.invariant-loop-i

@@ -1,0 +1,12 @@
+-- `list::fields::is_digit` is the definition's test. Assumes nothing.
+use borrow.Author.Tests.{le-leb, lt-leb}
+use Rattle.list.specs.Reading.{is_digit}
+use Rattle.list.proofs.fields.is_digit.Goals as goal
+
+pub returns-then-b-lt48 : goal.returns-then-b-lt48
+unfolding is_digit
+returns-then-b-lt48 c = rw (lt-leb 48 c.args.b c.if-b-lt48.true)
+
+pub returns : goal.returns
+unfolding is_digit
+returns c = rw (le-leb 48 c.args.b c.if-b-lt48.false)
