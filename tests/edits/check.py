@@ -14,7 +14,8 @@ import sys
 
 os.chdir(os.path.join(os.path.dirname(os.path.abspath(__file__)), '..', '..'))
 REFUSED = 'refused, as it must be'
-NAME_GONE = re.compile(r'that can be named from here|is not in scope|has no field|has no `|was not admitted|\berror\[')
+# the last: rt cuts, and reads, a message at its first line's end, and 'record `..' goes on 'has no field' in the next one
+NAME_GONE = re.compile(r'that can be named from here|is not in scope|has no field|has no `|was not admitted|\berror\[|: (record|module) `')
 WORD = r'[A-Za-z_]\w*'
 passed = 0
 wrong = []
@@ -62,6 +63,8 @@ PLANTED = (
     (False, 'refused, as it must be (only because a proof file names what the edit took away, so this says little of the contract: change a '
             'value and keep the names): ./proofs/pattern/whole/Invariants.antt:14:69: error: `invariant-loop-i`: record `..` has no field `total`', ()),
     (False, 'refused, as it must be: ./proofs/set/Answers.antt:9:1: error: module `Goals` has no `returns-2` that can be named from here', ()),
+    (False, 'refused, as it must be: ./proofs/strings/start_string/Answers.antt:15:26: error: `returns-then-reply-ne0-clause-number`: record '
+            '`Rattle.player.proofs.strings.start_string.Lts.View.In-T', ()),
     (False, 'refused, as it must be: note: src/set.rt:119:13: it is not proved that what the function ensures holds when it returns '
             '(`returns-then-found-ne0`)', ('found',)),
 )
