@@ -12,6 +12,7 @@ import os
 import re
 import sys
 
+LOG = os.path.abspath(sys.argv[1])
 os.chdir(os.path.join(os.path.dirname(os.path.abspath(__file__)), '..', '..'))
 REFUSED = 'refused, as it must be'
 # the last: rt cuts, and reads, a message at its first line's end, and 'record `..' goes on 'has no field' in the next one
@@ -75,7 +76,7 @@ for shows, said, names in PLANTED:
         wrong.append('planted, and judged wrongly: %s' % said)
 
 told = {}
-for line in open(sys.argv[1], errors='replace'):
+for line in open(LOG, errors='replace'):
     found = re.match(r'rt: must-fail (\w+)/([\w.-]+\.edit): ?(.*)', line)
     if found:
         told[found[1], found[2]] = found[3]
