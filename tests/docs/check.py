@@ -1,4 +1,4 @@
-"""Every path that a document names exists; every name that docs/PROMISES.md gives for a file stands in that file."""
+"""Every path that a document names exists; every name that a document gives for a file stands in that file."""
 import os
 import re
 import sys
@@ -34,16 +34,28 @@ for document in documents():
     for path in sorted(set(paths(text))):
         check(os.path.exists(path), '%s names %s, which is not there' % (document, path))
 
+
+def check_names(place, path, names):
+    """The names, each between backticks, stand in the file."""
+    if not os.path.isfile(path):
+        check(False, '%s: no file %s' % (place, path))
+        return
+    text = open(path).read()
+    for name in re.findall(r'`([^`]+)`', names):
+        found = re.search(r'(?<![\w·-])' + re.escape(name) + r'(?![\w·-])', text)
+        check(found, '%s: %s has no %s' % (place, path, name))
+
+
 # a cell of PROMISES.md: `path`: `name`, `name`; `path`: `name`
 for number, line in enumerate(open('docs/PROMISES.md'), 1):
     for path, names in re.findall(r'`([^`\s]+/[^`\s]+)`: ((?:`[^`]+`(?:, )?)+)', line):
-        if not os.path.isfile(path):
-            check(False, 'docs/PROMISES.md:%d: no file %s' % (number, path))
-            continue
-        text = open(path).read()
-        for name in re.findall(r'`([^`]+)`', names):
-            found = re.search(r'(?<![\w·-])' + re.escape(name) + r'(?![\w·-])', text)
-            check(found, 'docs/PROMISES.md:%d: %s has no %s' % (number, path, name))
+        check_names('docs/PROMISES.md:%d' % number, path, names)
+
+# elsewhere: `name`, `name` in `path`, where the path is a file's
+for document in documents():
+    for number, line in enumerate(open(document), 1):
+        for names, path in re.findall(r'((?:`[^`\s]+`, )*`[^`\s]+`) in `((?:%s)/[^`\s]*\.\w+)`' % '|'.join(FOLDERS), line):
+            check_names('%s:%d' % (document, number), path, names)
 
 for words in wrong:
     print(words)

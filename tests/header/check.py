@@ -32,11 +32,11 @@ def parts(text):
 
 
 def exported(text):
-    """name -> prototype of each '#[no_mangle] pub extern "C" fn', as C declares it."""
+    """name -> prototype of each '#[unsafe(no_mangle)] pub extern "C" fn', as C declares it."""
     found = {}
     text = re.sub(r'//[^\n]*', '', text)
     for name, params, gives in re.findall(
-            r'#\[no_mangle\]\s*pub\s+extern\s+"C"\s+fn\s+(\w+)\s*(?:<[^>]*>)?\s*\(([^)]*)\)\s*(?:->\s*(\w+))?', text):
+            r'#\[unsafe\(no_mangle\)\]\s*pub\s+extern\s+"C"\s+fn\s+(\w+)\s*(?:<[^>]*>)?\s*\(([^)]*)\)\s*(?:->\s*(\w+))?', text):
         words = []
         for param in parts(params):
             label, kind = (side.strip() for side in param.split(':', 1))
@@ -75,7 +75,7 @@ def compare_functions(header):
     there = exported('\n'.join(open(path).read() for path in sources))
     here = declared(header)
     if not there:
-        check(False, 'the crate kiluvsaat exports nothing yet: no #[no_mangle] pub extern "C" fn in %s' % SOURCES)
+        check(False, 'the crate kiluvsaat exports nothing yet: no #[unsafe(no_mangle)] pub extern "C" fn in %s' % SOURCES)
         return
     for name in sorted(set(here) | set(there)):
         if name not in here:
@@ -91,8 +91,8 @@ def compare_sizes(header):
     macros = dict(re.findall(r'#define (\w+) (\d+)\b', header))
     specs = dict(re.findall(r'^(\w+) = (\d+)$', open(SIZES).read(), flags=re.M))
     layout = open('docs/STATE.md').read()
-    for macro, size, title in (('KILUVSAAT_SET_SIZE', 'setSize', 'Task set'),
-                               ('KILUVSAAT_STATE_SIZE', 'stateSize', 'Player state')):
+    for macro, size, title in (('KILUVSAAT_SET_SIZE', 'set_size', 'Task set'),
+                               ('KILUVSAAT_STATE_SIZE', 'state_size', 'Player state')):
         number = macros.get(macro)
         check(number is not None and number == specs.get(size),
               '%s is %s, and %s in %s is %s' % (macro, number, size, SIZES, specs.get(size)))
