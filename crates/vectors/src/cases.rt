@@ -6,25 +6,26 @@ use crate::write::{few, say, say_number};
 use crate::{read, records, write};
 use planner::{Answer, Word};
 use player::State;
+use std::io;
+use std::io::Write;
 use tasks::TaskSet;
 
 // The reader's reply to a list.
-pub fn reading(text: &[u8]) {
+pub fn reading<W: Write>(out: &mut W, text: &[u8]) -> io::Result<()> {
     let r = list::read(text);
-    say_number(b"  refusal ", r.refusal as usize);
-    say_number(b", line ", r.line);
-    say_number(b", start ", r.start);
-    say_number(b", size ", r.size);
-    say(b": ");
+    say_number(out, b"  refusal ", r.refusal as usize)?;
+    say_number(out, b", line ", r.line)?;
+    say_number(out, b", start ", r.start)?;
+    say_number(out, b", size ", r.size)?;
+    say(out, b": ")?;
     if r.refusal == 0 {
         let s = r.set;
-        write::set(s);
-        say(b"\n");
-        return;
+        write::set(out, s)?;
+        return say(out, b"\n");
     }
-    say(b"\"");
-    write::bytes(list::refused_line(text));
-    say(b"\"\n");
+    say(out, b"\"")?;
+    write::bytes(out, list::refused_line(text))?;
+    say(out, b"\"\n")
 }
 
 fn at_most(n: usize, most: usize) -> usize
@@ -46,53 +47,63 @@ fn records_end(count: usize, width: usize) -> usize
 
 // The lent table and area after a reply with so many records. Where all had room, and there are at most twelve, they are shown, in order:
 // their order in the area is free, and so is which remain where there was no room for all.
-fn buffers(table: &mut [u8], area: &[u16], count: usize, width: usize, shown: bool)
+fn buffers<W: Write>(
+    out: &mut W,
+    table: &mut [u8],
+    area: &[u16],
+    count: usize,
+    width: usize,
+    shown: bool,
+) -> io::Result<()>
     requires { (0 < width) × (width ≤ 9) }
 {
     write::into_signs(table);
-    say(b"  table \"");
-    write::bytes(table);
-    say_number(b"\"\n  area ", count);
+    say(out, b"  table \"")?;
+    write::bytes(out, table)?;
+    say_number(out, b"\"\n  area ", count)?;
     let end = records_end(count, width);
-    say_number(b" records, ", records::kept(area, end));
-    say(b" kept");
+    say_number(out, b" records, ", records::kept(area, end))?;
+    say(out, b" kept")?;
     if !shown {
-        say(b"\n");
-        return;
+        return say(out, b"\n");
     }
     if 12 < count {
-        say(b"\n");
-        return;
+        return say(out, b"\n");
     }
-    records::all(area, count, end, width);
-    say(b"\n");
+    records::all(out, area, count, end, width)?;
+    say(out, b"\n")
 }
 
 // The planner's reply to a set, and what it leaves in the table and the area.
-fn planned(set: TaskSet, table: &mut [u8], area: &mut [u16]) {
+fn planned<W: Write>(
+    out: &mut W,
+    set: TaskSet,
+    table: &mut [u8],
+    area: &mut [u16],
+) -> io::Result<()> {
     let width = few(set.count) + 1;
     let answer = planner::plan(set, table, area);
     match answer {
         Answer::Refused(n) => {
-            say_number(b"  refused ", n as usize);
-            say(b"\n");
-            buffers(table, area, 0, width, false);
+            say_number(out, b"  refused ", n as usize)?;
+            say(out, b"\n")?;
+            buffers(out, table, area, 0, width, false)
         }
         Answer::Answered(word, count) => match word {
             Word::Schedule => {
-                say_number(b"  schedule ", count);
-                say(b"\n");
-                buffers(table, area, count, width, true);
+                say_number(out, b"  schedule ", count)?;
+                say(out, b"\n")?;
+                buffers(out, table, area, count, width, true)
             }
             Word::Infeasible => {
-                say_number(b"  infeasible ", count);
-                say(b"\n");
-                buffers(table, area, count, width, true);
+                say_number(out, b"  infeasible ", count)?;
+                say(out, b"\n")?;
+                buffers(out, table, area, count, width, true)
             }
             Word::OutOfRoom => {
-                say_number(b"  out of room ", count);
-                say(b"\n");
-                buffers(table, area, count, width, false);
+                say_number(out, b"  out of room ", count)?;
+                say(out, b"\n")?;
+                buffers(out, table, area, count, width, false)
             }
         },
     }
@@ -137,11 +148,10 @@ fn lent_area() -> [u16; 24000]
 }
 
 // A plan: the list, the length of the table and that of the area.
-pub fn planning(rest: &[u8], text: &[u8]) {
+pub fn planning<W: Write>(out: &mut W, rest: &[u8], text: &[u8]) -> io::Result<()> {
     let r = list::read(text);
     if r.refusal != 0 {
-        reading(text);
-        return;
+        return reading(out, text);
     }
     let set = r.set;
     let first = number_behind(rest, 0);
@@ -150,33 +160,33 @@ pub fn planning(rest: &[u8], text: &[u8]) {
     let numbers = at_most(second.value, 24000);
     let mut table = lent_table();
     let mut area = lent_area();
-    planned(set, &mut table[..slots], &mut area[..numbers]);
+    planned(out, set, &mut table[..slots], &mut area[..numbers])
 }
 
 // A tick with the table and the reports as the script writes them, and its reply. The new state.
-fn tick(state: State, slots: &[u8], word: &[u8]) -> State {
+fn tick<W: Write>(out: &mut W, state: State, slots: &[u8], word: &[u8]) -> io::Result<State> {
     let mut table = [0u8; 8192];
     let length = read::values(slots, b'1', &mut table);
     let mut reports = [0u8; 8192];
     let n = read::values(word, b'0', &mut reports);
-    say_number(b"  ", state.slot as usize);
-    say(b": ");
-    say(word);
+    say_number(out, b"  ", state.slot as usize)?;
+    say(out, b": ")?;
+    say(out, word)?;
     let t = player::tick(state, &table[..length], &reports[..n]);
     let after = t.state;
     if t.refusal != 0 {
-        say_number(b" -> refused ", t.refusal as usize);
-        say(b"\n");
-        return after;
+        say_number(out, b" -> refused ", t.refusal as usize)?;
+        say(out, b"\n")?;
+        return Ok(after);
     }
-    say(b" -> ");
-    say(&[write::slot_sign(t.runner)]);
-    say(b" ");
+    say(out, b" -> ")?;
+    say(out, &[write::slot_sign(t.runner)])?;
+    say(out, b" ")?;
     let s = after.set;
     let f = t.faults;
-    write::faults(f, few(s.count));
-    say(b"\n");
-    after
+    write::faults(out, f, few(s.count))?;
+    say(out, b"\n")?;
+    Ok(after)
 }
 
 // Where the table begins in a field that begins with `=`; in another, the field's own start.
@@ -194,7 +204,7 @@ fn table_start(rest: &[u8], start: usize, end: usize) -> usize
 }
 
 // Ticks with the reports of the fields behind the table. A field that begins with `=` is the table from there on.
-fn ticks(rest: &[u8], table: Field, first: State)
+fn ticks<W: Write>(out: &mut W, rest: &[u8], table: Field, first: State) -> io::Result<()>
     requires { (table.start ≤ table.end) × (table.end ≤ length rest.now) }
 {
     let mut state = first;
@@ -207,7 +217,7 @@ fn ticks(rest: &[u8], table: Field, first: State)
         let end = f.end;
         let behind = table_start(rest, start, end);
         if behind == start {
-            state = tick(state, &rest[from..to], &rest[start..end]);
+            state = tick(out, state, &rest[from..to], &rest[start..end])?;
             at = end;
         } else {
             from = behind;
@@ -215,17 +225,17 @@ fn ticks(rest: &[u8], table: Field, first: State)
             at = end;
         }
     }
+    Ok(())
 }
 
 // A play: the list, the table and the reports of each tick.
-pub fn playing(rest: &[u8], text: &[u8]) {
+pub fn playing<W: Write>(out: &mut W, rest: &[u8], text: &[u8]) -> io::Result<()> {
     let r = list::read(text);
     if r.refusal != 0 {
-        reading(text);
-        return;
+        return reading(out, text);
     }
     if rest.len() == 0 {
-        return;
+        return Ok(());
     }
     let f = field_behind(rest, 0);
     let start = f.start;
@@ -235,10 +245,9 @@ pub fn playing(rest: &[u8], text: &[u8]) {
     let set = r.set;
     let begun = player::start(set, &table[..n]);
     if begun.refusal != 0 {
-        say_number(b"  refused ", begun.refusal as usize);
-        say(b"\n");
-        return;
+        say_number(out, b"  refused ", begun.refusal as usize)?;
+        return say(out, b"\n");
     }
     let state = begun.state;
-    ticks(rest, f, state);
+    ticks(out, rest, f, state)
 }

@@ -1,74 +1,70 @@
 // What is written of bytes, numbers, sets and tables.
 ghost use Rattle.std.specs.Prelude.{◌<◌, ◌≤◌, length};
 
-use libc::STDOUT_FILENO;
+use std::io;
+use std::io::Write;
 use tasks::pattern::{fields, units_at};
 use tasks::{Task, TaskSet};
 
-pub fn say(text: &[u8]) {
-    io::write_all(STDOUT_FILENO, text);
+pub fn say<W: Write>(out: &mut W, text: &[u8]) -> io::Result<()> {
+    out.write_all(text)
 }
 
-pub fn number(n: usize) {
-    io::print_decimal(STDOUT_FILENO, n as u64);
+pub fn number<W: Write>(out: &mut W, n: usize) -> io::Result<()> {
+    write!(out, "{n}")
 }
 
-fn small(n: u8) {
-    number(n as usize);
+fn small<W: Write>(out: &mut W, n: u8) -> io::Result<()> {
+    number(out, n as usize)
 }
 
 // Words, and a number behind them.
-pub fn say_number(text: &[u8], n: usize) {
-    say(text);
-    number(n);
+pub fn say_number<W: Write>(out: &mut W, text: &[u8], n: usize) -> io::Result<()> {
+    say(out, text)?;
+    number(out, n)
 }
 
 // A byte as the script writes it.
-fn byte(b: u8) {
+fn byte<W: Write>(out: &mut W, b: u8) -> io::Result<()> {
     if b == b'\\' {
-        say(b"\\\\");
-        return;
+        return say(out, b"\\\\");
     }
     if b == b'"' {
-        escaped(b);
-        return;
+        return escaped(out, b);
     }
     if b < b' ' {
-        escaped(b);
-        return;
+        return escaped(out, b);
     }
     if b'~' < b {
-        escaped(b);
-        return;
+        return escaped(out, b);
     }
-    say(&[b]);
+    say(out, &[b])
 }
 
-fn escaped(b: u8) {
-    say(b"\\x");
-    io::print_hex(STDOUT_FILENO, b as u64, 2);
+fn escaped<W: Write>(out: &mut W, b: u8) -> io::Result<()> {
+    write!(out, "\\x{b:02x}")
 }
 
-fn repeated(b: u8, times: usize) {
+fn repeated<W: Write>(out: &mut W, b: u8, times: usize) -> io::Result<()> {
     let mut left = times;
     while 0 < left {
-        byte(b);
+        byte(out, b)?;
         left -= 1;
     }
+    Ok(())
 }
 
 // A run of one byte: eight or more are written as `\*NNNNb`.
-fn stretch(b: u8, times: usize) {
+fn stretch<W: Write>(out: &mut W, b: u8, times: usize) -> io::Result<()> {
     if times < 8 {
-        repeated(b, times);
-        return;
+        return repeated(out, b, times);
     }
-    say(b"\\*");
-    number(times / 1000 % 10);
-    number(times / 100 % 10);
-    number(times / 10 % 10);
-    number(times % 10);
-    byte(b);
+    say(out, b"\\*")?;
+    number(out, times / 1000 % 10)?;
+    number(out, times / 100 % 10)?;
+    number(out, times / 10 % 10)?;
+    number(out, times % 10)?;
+    byte(out, b)
 }
 
 // Where the run of the byte at `from` ends.
@@ -87,13 +83,14 @@ fn stretch_end(text: &[u8], from: usize) -> usize
     at
 }
 
-pub fn bytes(text: &[u8]) {
+pub fn bytes<W: Write>(out: &mut W, text: &[u8]) -> io::Result<()> {
     let mut at = 0;
     while at < text.len() {
         let end = stretch_end(text, at);
-        stretch(text[at], end - at);
+        stretch(out, text[at], end - at)?;
         at = end;
     }
+    Ok(())
 }
 
 // The sign of a table's entry: the task's number, a dot for idle, a line for a byte that was there before.
@@ -120,18 +117,18 @@ pub fn into_signs(table: &mut [u8]) {
 }
 
 // Period, deadline, steps and pattern of a task.
-fn task(t: Task) {
-    say_number(b" (", t.period as usize);
-    say_number(b" ", t.deadline as usize);
-    say_number(b" ", t.steps as usize);
-    say(b":");
+fn task<W: Write>(out: &mut W, t: Task) -> io::Result<()> {
+    say_number(out, b" (", t.period as usize)?;
+    say_number(out, b" ", t.deadline as usize)?;
+    say_number(out, b" ", t.steps as usize)?;
+    say(out, b":")?;
     let n = fields(t);
     let mut i = 0;
     while i < n {
-        say_number(b" ", units_at(t, i) as usize);
+        say_number(out, b" ", units_at(t, i) as usize)?;
         i += 1;
     }
-    say(b")");
+    say(out, b")")
 }
 
 // At most eight.
@@ -145,24 +142,26 @@ pub fn few(n: u8) -> usize
 }
 
 // The number of tasks, and the tasks.
-pub fn set(s: TaskSet) {
-    say_number(b"set ", s.count as usize);
+pub fn set<W: Write>(out: &mut W, s: TaskSet) -> io::Result<()> {
+    say_number(out, b"set ", s.count as usize)?;
     let n = few(s.count);
     let mut i = 0;
     while i < n {
         let t = s.tasks[i];
-        task(t);
+        task(out, t)?;
         i += 1;
     }
+    Ok(())
 }
 
 // The first n of the fault bytes.
-pub fn faults(f: [u8; 8], n: usize)
+pub fn faults<W: Write>(out: &mut W, f: [u8; 8], n: usize) -> io::Result<()>
     requires { n ≤ 8 }
 {
     let mut i = 0;
     while i < n {
-        small(f[i]);
+        small(out, f[i])?;
         i += 1;
     }
+    Ok(())
 }
