@@ -1,5 +1,5 @@
 // The parts of a script line.
-ghost use Rattle.std.specs.Prelude.{◌≡◌, ◌<◌, ◌≤◌, length};
+ghost use Rattle.std.specs.Prelude.{◌≡◌, ◌<◌, ◌≤◌, length, take};
 
 // Where a byte stands first, at or behind `from`: the line's length if it doesn't.
 pub fn find(line: &[u8], from: usize, byte: u8) -> usize
@@ -167,7 +167,7 @@ pub struct Unescaped {
 // The list from `from` up to the next quote.
 pub fn unescape(line: &[u8], from: usize, list: &mut [u8]) -> Unescaped
     requires { from ≤ length line.now }
-    ensures size_in_bounds { result.size ≤ length list.new }
+    ensures prefix_len { (result.size ≤ length list.new) × (result.size ≡ length (take result.size list.new)) }
     ensures next_in_bounds { result.next ≤ length line.now }
 {
     let mut size = 0;
@@ -185,7 +185,7 @@ pub fn unescape(line: &[u8], from: usize, list: &mut [u8]) -> Unescaped
 
 // Signs as numbers, counted from the sign of 0; a sign below it is 255. The number of them.
 pub fn values(word: &[u8], zero: u8, out: &mut [u8]) -> usize
-    ensures { result ≤ length out.new }
+    ensures { (result ≤ length out.new) × (result ≡ length (take result out.new)) }
 {
     let mut i = 0;
     while i < word.len() {
