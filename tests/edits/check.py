@@ -1,4 +1,4 @@
-"""Each must-fail edit is refused because a fact fails.
+"""What refuses each must-fail edit: a fact that fails, as far as rt's own words tell.
 
 usage: check.py LOG     LOG is what `rt ci` or `rt must-fail` printed
 
@@ -6,6 +6,9 @@ rt prints a line for each edit, also for one that it has kept from an earlier ru
 for a refusal with the first 160 characters of its reason. An edit fails here that has no such line, or is not refused, or does not read or
 apply, or was not tried, or is refused by a limit of the prover, for no stated reason, or only because a name is gone. Then the reason is a
 name that is not in scope, or a goal that bears a name of the edit's own: the answer to that goal stands under the old name and was not read.
+
+Not seen here: a goal that an edit renames by another number or comparison, as `gt4096` to `gt4097`. Such an edit passes even if it means what the
+program means, as tasks/bound_4097 does. The table of edits in docs/PORT.md says what a trial by hand found of each.
 """
 import glob
 import os
