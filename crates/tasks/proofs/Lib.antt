@@ -1,6 +1,6 @@
 pub mod Views
 pub mod OneTask
 pub mod Multiple
-pub mod Refusal
+pub mod Refusals
 pub mod Positions
 pub mod Slotwise

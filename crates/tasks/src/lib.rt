@@ -3,10 +3,13 @@
 
 pub mod pattern;
 pub mod position;
+pub mod refusal;
 pub mod set;
 
+pub use refusal::Refusal;
+
 // A task: period T, deadline D, m steps, and the pattern C E C .. of which the first 2m - 1 entries are in use.
-#[derive(Clone, Copy)]
+#[derive(Clone, Copy, Debug, Default, PartialEq, Eq)]
 pub struct Task {
     pub period: u16,
     pub deadline: u16,
@@ -15,14 +18,14 @@ pub struct Task {
 }
 
 // A set of tasks, of which the first `count` are in use.
-#[derive(Clone, Copy)]
+#[derive(Clone, Copy, Debug, Default, PartialEq, Eq)]
 pub struct TaskSet {
     pub count: u8,
     pub tasks: [Task; 8],
 }
 
 // How progress stands in a pattern.
-#[derive(Clone, Copy)]
+#[derive(Clone, Copy, Debug, PartialEq, Eq)]
 pub enum Standing {
     Ready,
     Waiting,

@@ -3,7 +3,7 @@
 use native.Mathlib.Omega.{arith}
 use mathlib.Core.Path.{refl, sym, ◌∙◌}
 use Rattle.tasks.proofs.Multiple.{set-within}
-use Rattle.tasks.proofs.Refusal.{first-here, first_next, first-end}
+use Rattle.tasks.proofs.Refusals.{first-here, first_next, first-end}
 use Rattle.tasks.proofs.set.first_refusal.Goals as goal
 
 pub loop-i-init : goal.loop-i-init

@@ -1,5 +1,5 @@
 -- `tasks::set::judge` is the set's refusal and its hyper-period with its bound. Assumes nothing.
-use Rattle.tasks.proofs.Refusal.{set-laws}
+use Rattle.tasks.proofs.Refusals.{set-laws}
 use Rattle.tasks.proofs.set.judge.Goals as goal
 
 pub returns-then-s-eq0-clause-refused : goal.returns-then-s-eq0-clause-refused

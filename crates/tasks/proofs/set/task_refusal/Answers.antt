@@ -1,5 +1,5 @@
 -- `tasks::set::task_refusal` is the refusal of one task. Assumes nothing.
-use Rattle.tasks.proofs.Refusal.{task-laws}
+use Rattle.tasks.proofs.Refusals.{task-laws}
 use Rattle.tasks.proofs.set.task_refusal.Goals as goal
 
 pub returns-then-t-eq0 : goal.returns-then-t-eq0

@@ -1,5 +1,5 @@
 -- `tasks::set::time_in_range` is whether a number is in the range of a period. Assumes nothing.
-use Rattle.tasks.proofs.Refusal.{between-zero, between_more}
+use Rattle.tasks.proofs.Refusals.{between-zero, between_more}
 use Rattle.tasks.proofs.set.time_in_range.Goals as goal
 
 pub returns-then-x-eq0 : goal.returns-then-x-eq0

@@ -6,7 +6,7 @@ use borrow.Author.Count.{below_none, below_more}
 use lib.ListN.{get_or}
 use mir.Syntax.{w8}
 use mir.Val.{Fits}
-use Rattle.tasks.proofs.Refusal.{fields_within, units-no, units-yes}
+use Rattle.tasks.proofs.Refusals.{fields_within, units-no, units-yes}
 use Rattle.tasks.proofs.set.units_in_range.Goals as goal
 
 pub loop-i-init : goal.loop-i-init
