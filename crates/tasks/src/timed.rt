@@ -3,6 +3,7 @@
 ghost use Rattle.std.specs.Prelude.{◌≡◌, cond, suc, ◌%◌, ◌≤◌, eqb, take};
 ghost use Rattle.rules.specs.Tasks.{sum, standing};
 ghost use Rattle.rules.specs.Positions.{laxity, in_time};
+ghost use Rattle.tasks.specs.Slots.{well_at};
 
 use crate::pattern::{fields, whole};
 use crate::{Standing, Task};
@@ -132,5 +133,18 @@ impl Timed {
             return 0;
         }
         progress
+    }
+
+    // It ends a slot well and begins the next one live, from the progress at the slot's end: in time, and where its job starts again done, with
+    // time for the new one.
+    #[tactic(auto, using(crate::proofs::Timing::wells))]
+    pub fn ends_well(&self, since: Since, progress: u16) -> bool
+        ensures { result ≡ well_at since.slots (timed_task self.now) progress }
+    {
+        if !self.in_time(since, progress) {
+            return false;
+        }
+        since.slots != u32::from(self.period)
+            || (self.length <= progress && self.in_time(Since { slots: 0 }, 0))
     }
 }
