@@ -140,7 +140,7 @@ unfolding sum
 sum-small [] h = omega arith
 sum-small (n ∷ ns) h = let a = h 0 (omega arith) in let b = sum-small ns (λ i k. h (suc i) (omega arith)) in omega arith
 
-span_small : (t : Task) → ((i : ℕ) → Fits w8 (get_or t.pattern i 0)) → span (task_of t) ≤ 1785
+pub span_small : (t : Task) → ((i : ℕ) → Fits w8 (get_or t.pattern i 0)) → span (task_of t) ≤ 1785
 unfolding span
 span_small t h =
     let a = sum-small (task_of t).pattern (λ i k. rw (sym (entry_read t i k)) (h i)) in
