@@ -1,6 +1,6 @@
 -- Laws of a timed task: where progress stands, entry by entry, and what its length says of laxity.
 use mathlib.Core.Path.{◌≡◌, refl, sym, ap, ◌∙◌}
-use mathlib.Core.Bool.{Bool, true, false, not, ◌&&◌, ◌||◌, and-true}
+use mathlib.Core.Bool.{Bool, true, false, not, cond, ◌&&◌, ◌||◌, and-true}
 use mathlib.Core.List.{List}
 use Prim.Native.Nat.{ℕ, suc, ◌+◌, ◌-◌, ◌%◌, ◌≤◌, ◌<◌}
 use native.Mathlib.Nat.{mod-zero, mod-eq_of_lt}
@@ -9,21 +9,23 @@ use native.Mathlib.Omega.{arith}
 use borrow.Author.Tests.{eqb-true, eqb-false, eq-eqb, ne_eqb, not-true, not-false, lt-ltb, le-ltb, le-leb, lt-leb}
 use lib.IntN.{ℤ, pos}
 use lib.Signed.{le_z}
-use mir.Syntax.{w32}
-use mir.Val.{SFits, to_z, of_z}
+use mir.Syntax.{w16, w32}
+use mir.Val.{Fits, SFits, to_z, of_z}
 use mir.Facts.{to_z-of_z}
 use lib.Dec.{leb, eqb}
 use lib.ListN.{length, get_or, take, drop, drop_of_length-le}
 use lib.Seq.{drop-cons}
 use Rattle.rules.specs.Tasks.{Task, is_done, standing, Standing, done, within, sum, span}
-use Rattle.rules.specs.Positions.{in_time, laxity}
+use Rattle.rules.specs.Positions.{moved, in_time, laxity}
 use Rattle.tasks.specs.declared.timed.Timed.{Timed}
 use Rattle.tasks.specs.Timed.{timed_task}
 use Rattle.tasks.specs.declared.Task as code
-use Rattle.tasks.specs.Views.{task_of}
-use Rattle.tasks.specs.Slots.{well_at, well_after}
-use Rattle.tasks.proofs.Slotwise.{pass-over, pass-amid}
-use Rattle.tasks.proofs.OneTask.{done-from, undone-till, in-time-done, in-time-left, pattern-short, pattern-take}
+use Rattle.tasks.specs.declared.Standing as stands
+use Rattle.tasks.specs.declared.Standing.TheVariants.{Ready, Waiting, Done}
+use Rattle.tasks.specs.Views.{task_of, standing_of}
+use Rattle.tasks.specs.Slots.{onward, well_at, well_after}
+use Rattle.tasks.proofs.Slotwise.{starts-full, pass-over, pass-amid}
+use Rattle.tasks.proofs.OneTask.{undone-below, done-from, undone-till, in-time-done, in-time-left, pattern-short, pattern-take}
 
 module _ (a b : Standing) (ns : List ℕ) (i p : ℕ) where
   -- inside entry i
@@ -52,6 +54,8 @@ pub no-period : (t n : ℕ) → n ≡ 0 → t ≡ t % n
 no-period t n e = rw e (sym (mod-zero t))
 
 pub ruleset mods = (first-period, no-period)
+
+pub ruleset no_period = (no-period)
 
 -- ── in time ─────────────────────────────────────────────────────────────────
 
@@ -129,3 +133,43 @@ module _ (t : ℕ) (τ : Task) (p : ℕ) where
       go false e =
           let k = eqb-false _ _ e in
           and-true w ∙ (pass-amid t τ p p (t % τ.period) w refl refl timely (λ z. k (omega arith))).0
+
+-- the progress in the next slot
+pub onward-is : (t : ℕ) (τ : Task) (p : ℕ) → cond (eqb (suc (t % τ.period)) τ.period) 0 p ≡ onward t τ p
+unfolding onward
+onward-is t τ p = rw (starts-full t τ) refl
+
+-- ── progress that rises ─────────────────────────────────────────────────────
+
+module _ (t : Timed) (p : ℕ) (k : stands.Standing) (e : standing_of k ≡ standing (timed_task t) p) where
+  undone-fits : is_done (standing (timed_task t) p) ≡ false → Fits w16 (p + 1)
+  undone-fits d = let b = undone-below (timed_task t) p d in let l = whole-is t 0 p in let s = t.small in omega arith
+
+  pub ready-fits : k ≡ Ready → Fits w16 (p + 1)
+  unfolding standing_of is_done
+  ready-fits h = undone-fits (rw (← e, h) refl)
+
+  pub waiting-fits : k ≡ Waiting → Fits w16 (p + 1)
+  unfolding standing_of is_done
+  waiting-fits h = undone-fits (rw (← e, h) refl)
+
+  module _ (c : Bool) where
+    pub ready-moves : k ≡ Ready → c ≡ true → p + 1 ≡ moved (standing (timed_task t) p) c p
+    unfolding standing_of moved
+    ready-moves h u = rw (← e, h, u) (add-one p)
+
+    pub ready-stays : k ≡ Ready → c ≡ false → p ≡ moved (standing (timed_task t) p) c p
+    unfolding standing_of moved
+    ready-stays h u = rw (← e, h, u) refl
+
+    pub waiting-moves : k ≡ Waiting → p + 1 ≡ moved (standing (timed_task t) p) c p
+    unfolding standing_of moved
+    waiting-moves h = rw (← e, h) (add-one p)
+
+    pub done-stays : k ≡ Done → p ≡ moved (standing (timed_task t) p) c p
+    unfolding standing_of moved
+    done-stays h = rw (← e, h) refl
+
+pub ruleset moves = (ready-fits, waiting-fits, ready-moves, ready-stays, waiting-moves, done-stays)
+
+pub ruleset passes = (well-after, onward-is)

@@ -2,10 +2,10 @@
 // for the planner.
 ghost use Rattle.std.specs.Prelude.{◌≡◌, cond, suc, ◌%◌, ◌≤◌, eqb, take};
 ghost use Rattle.rules.specs.Tasks.{sum, standing};
-ghost use Rattle.rules.specs.Positions.{laxity, in_time};
-ghost use Rattle.tasks.specs.Slots.{well_at};
+ghost use Rattle.rules.specs.Positions.{moved, laxity, in_time};
+ghost use Rattle.tasks.specs.Slots.{onward, well_after, well_at};
 
-use crate::pattern::{fields, whole};
+use crate::pattern::since;
 use crate::{Standing, Task};
 
 // A task: period T, deadline D, length L, and the pattern, of which the first entries are in use.
@@ -40,8 +40,8 @@ impl From<Task> for Timed {
         Timed {
             period: task.period,
             deadline: task.deadline,
-            length: whole(task),
-            entries: fields(task),
+            length: task.length(),
+            entries: task.fields(),
             pattern,
         }
     }
@@ -75,11 +75,7 @@ impl Timed {
     pub fn since_release(&self, slot: u32) -> u32
         ensures { result ≡ slot % (timed_task self.now).period }
     {
-        let period = u32::from(self.period);
-        if period == 0 {
-            return slot;
-        }
-        slot % period
+        since(self.period, slot)
     }
 
     // The time since release at the start of a slot.
@@ -147,4 +143,42 @@ impl Timed {
         since.slots != u32::from(self.period)
             || (self.length <= progress && self.in_time(Since { slots: 0 }, 0))
     }
+
+    // The progress after a slot: it rises if the task was chosen and ready, or waited.
+    #[tactic(auto, using(crate::proofs::Timing::moves))]
+    pub fn moved_on(&self, progress: u16, chosen: bool) -> u16
+        ensures { result ≡ moved (standing (timed_task self.now) progress) chosen progress }
+    {
+        match self.standing_at(progress) {
+            Standing::Ready => {
+                if chosen {
+                    return progress + 1;
+                }
+                progress
+            }
+            Standing::Waiting => progress + 1,
+            Standing::Done => progress,
+        }
+    }
+
+    // What a slot does: whether the task ends it well and begins the next one live, and its progress then.
+    #[tactic(auto, using(crate::proofs::Timing::passes))]
+    pub fn pass(&self, slot: u16, progress: u16, chosen: bool) -> Passed
+        ensures ending { result.well ≡ well_after slot (timed_task self.now) (moved (standing (timed_task self.now) progress) chosen progress) }
+        ensures on { result.progress ≡ onward slot (timed_task self.now) (moved (standing (timed_task self.now) progress) chosen progress) }
+    {
+        let end = self.moved_on(progress, chosen);
+        let since = self.since_end(slot);
+        Passed {
+            well: self.ends_well(since, end),
+            progress: self.begun(since, end),
+        }
+    }
+}
+
+// What a slot does to one task: whether it ends the slot well and begins the next one live, and its progress then.
+#[derive(Clone, Copy, Debug, PartialEq, Eq)]
+pub struct Passed {
+    pub well: bool,
+    pub progress: u16,
 }

@@ -12,8 +12,8 @@ use Rattle.tasks.proofs.timed.TimedFromTask.from.Goals as goal
 pub invariant_of-result : goal.invariant_of-result
 invariant_of-result c = record {
   few = entries-few c.args.task _ (search rules) c.fields.ensures;
-  whole = entries-sum c.args.task _ (search rules) c.fields.ensures _ c.whole.ensures;
-  small = let k = span_small c.args.task (λ i. search rules) in let e = c.whole.ensures in omega arith;
+  whole = entries-sum c.args.task _ (search rules) c.fields.ensures _ c.length.ensures;
+  small = let k = span_small c.args.task (λ i. search rules) in let e = c.length.ensures in omega arith;
 }
 
 pub returns : goal.returns
