@@ -1,15 +1,13 @@
 -- The form of a state, test by test, as the code makes them.
 use Rattle.std.proofs.Common.{◌≡◌, ◌≤◌, ◌<◌, ◌+◌, ◌-◌, ◌%◌, ◌==◌, ◌⊎◌, inl, inr, ℕ, suc, zero, List, [], ◌∷◌, Bool, true, false, not, eqb, leb, ltb, ◌&&◌, ◌||◌, T, length, map, get_or, take, drop, arith, sym, ap, refl, ◌∙◌, add-one, drop-cons}
-use mathlib.Core.Bool.{and-false}
 use native.Mathlib.Nat.{zero-add}
 use borrow.Author.Tests.{ne_eqb, eq-eqb, lt-ltb}
 use lib.ListN.{length-drop, length-map}
 use lib.Seq.{ext_get_or, get_or-take, length-take-le, take_all}
 use Rattle.std.specs.List.{list_all}
 use Rattle.std.proofs.lemmas.List.{drop_all, take-map, get_or-map}
-use Rattle.std.proofs.lemmas.Bool.Decides.{nat_tests}
 use Rattle.rules.specs.Lists.{tabulate, all_of, is_zero}
-use Rattle.rules.specs.Tasks.{Task, no_task, sum, span}
+use Rattle.rules.specs.Tasks.{Task, no_task, span}
 use Rattle.rules.specs.Positions.{starts, in_time, every, live_position}
 use Rattle.rules.specs.Hyper.{hyper}
 use Rattle.rules.specs.Jobs as model
@@ -28,11 +26,10 @@ use Rattle.tasks.proofs.Views.{units-length, unit-at, set-few, set_all, set-used
 use Rattle.tasks.proofs.Positions.{set-fits, in_use-length}
 use Rattle.tasks.proofs.Slotwise.{and-swap}
 use Rattle.tasks.proofs.Refusals.{number-some}
-use Rattle.player.specs.declared.Job.{Job}
 use Rattle.player.specs.declared.State.{State}
 use Rattle.player.specs.Views.{job_of, no_job, eight, jobs_of, runner_number, state_of}
 use Rattle.player.specs.Forms.{plan_fits, task_fits, tasks_fit, rest_fits, parts_fit}
-use Rattle.player.proofs.Views.{eight-length, eight-at, eight-same, jobs-length, jobs-at}
+use Rattle.player.proofs.Views.{eight-length, eight-at, jobs-length, jobs-at}
 
 -- ── lists ───────────────────────────────────────────────────────────────────
 
@@ -131,9 +128,9 @@ module _ (t last i : ℕ) (s : List Task) (ps : List ℕ) (js : List model.Job) 
   unfolding planned_form live_position every jobs_form all_of
   rest-step h p j r = rw (drop-cons s i no_task h, drop-cons ps i 0 p, drop-cons js i finished j, drop-cons rs i no_record r)
       (by-task (leb (get_or ps i 0) (span (get_or s i no_task)) && (not (starts t (get_or s i no_task)) || is_zero (get_or ps i 0))) (in_time (t % (get_or s i no_task).period) (get_or s i no_task) (get_or ps i 0))
-        (job_form (get_or s i no_task) (eqb last i) (get_or js i finished)) (units_tidy (get_or rs i no_record))
-        (every (λ τ p. leb p (span τ) && (not (starts t τ) || is_zero p)) (drop (suc i) s) (drop (suc i) ps)) (every (λ τ p. in_time (t % τ.period) τ p) (drop (suc i) s) (drop (suc i) ps))
-        (jobs_form last (suc i) (drop (suc i) s) (drop (suc i) js)) (all_of units_tidy (drop (suc i) rs)))
+      (job_form (get_or s i no_task) (eqb last i) (get_or js i finished)) (units_tidy (get_or rs i no_record))
+      (every (λ τ p. leb p (span τ) && (not (starts t τ) || is_zero p)) (drop (suc i) s) (drop (suc i) ps)) (every (λ τ p. in_time (t % τ.period) τ p) (drop (suc i) s) (drop (suc i) ps))
+      (jobs_form last (suc i) (drop (suc i) s) (drop (suc i) js)) (all_of units_tidy (drop (suc i) rs)))
 
   rest-end : length s ≤ i → length rs ≤ i → rest t last i s ps js rs ≡ true
   unfolding planned_form live_position every jobs_form all_of
@@ -205,8 +202,14 @@ module _ (st : State) (jobs : length st.jobs ≡ 8) where
   pub rest-is : length st.set.tasks ≡ 8 → length st.planned ≡ 8 → rest_fits (state_of st)
       ≡ list_all (λ t. is_blank_task (entry_of t)) (take (8 - n) (drop n st.set.tasks)) && (list_all (λ p. p == 0) (take (8 - n) (drop n st.planned)) && list_all (λ j. is_blank_job (job_of j)) (take (8 - n) (drop n st.jobs)))
   unfolding rest_fits state_of record_of eight jobs_of is_zero
-  rest-is tasks plans = rw (read entry_of st.set.tasks no_entry 8 tasks, read (λ p. p) st.planned 0 8 plans, read job_of st.jobs no_job 8 jobs,
-      tail is_blank_task entry_of st.set.tasks st.set n refl tasks, tail is_zero (λ p. p) st.planned st.set n refl plans, tail is_blank_job job_of st.jobs st.set n refl jobs) refl
+  rest-is tasks plans = rw (
+    read entry_of st.set.tasks no_entry 8 tasks,
+    read (λ p. p) st.planned 0 8 plans,
+    read job_of st.jobs no_job 8 jobs,
+    tail is_blank_task entry_of st.set.tasks st.set n refl tasks,
+    tail is_zero (λ p. p) st.planned st.set n refl plans,
+    tail is_blank_job job_of st.jobs st.set n refl jobs,
+  ) refl
 
   pub last-is : last_form (length (set_in (state_of st).set)) (state_of st).last (in_use (state_of st)).jobs ≡ last_form (length (take n st.jobs)) (runner_number st.last) (map job_of (take n st.jobs))
   unfolding in_use state_of record_of jobs_of set_of
@@ -243,7 +246,7 @@ module _ (st : State) where
       let last = runner_number st.last in
       rw (eq-eqb (record_refusal r) 0 e)
       (regroup (ltb st.slot (hyper s)) (planned_form s st.slot ps) (jobs_form last 0 s js) (last_form (length s) last js) (all_of units_tidy (used r))
-        (all_of is_blank_task (drop r.count r.entries)) (all_of is_zero (drop r.count (eight st.planned))) (all_of is_blank_job (drop r.count (jobs_of st.jobs))))
+      (all_of is_blank_task (drop r.count r.entries)) (all_of is_zero (drop r.count (eight st.planned))) (all_of is_blank_job (drop r.count (jobs_of st.jobs))))
 
   pub has-form : record_refusal (record_of st.set) ≡ 0 → st.slot < hyper (set_of st.set) → parts_fit (state_of st) ≡ true → T (form (state_of st))
   has-form e h p = true-T (form (state_of st)) (form-is e ∙ rw (lt-ltb st.slot (hyper (set_of st.set)) h, p) refl)

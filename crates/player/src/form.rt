@@ -75,7 +75,7 @@ fn tasks_fit(state: &State) -> bool
     ensures { result ≡ tasks_fit (state_of state.now) 0 }
 {
     for (i, task) in state.set.used().iter().enumerate() {
-        let ran = state.last == Some(i as u8);
+        let ran = state.last.map(usize::from) == Some(i);
         if !task_fits(task, state.slot, state.planned[i], ran, &state.jobs[i]) {
             return false;
         }
@@ -130,7 +130,9 @@ fn rest_fits(state: &State) -> bool
     ensures { result ≡ rest_fits (state_of state.now) }
 {
     let n = state.set.used().len();
-    tasks_blank(&state.set.tasks[n..]) && plans_blank(&state.planned[n..]) && jobs_blank(&state.jobs[n..])
+    tasks_blank(&state.set.tasks[n..])
+        && plans_blank(&state.planned[n..])
+        && jobs_blank(&state.jobs[n..])
 }
 
 // The form of all but the set and the slot: the tasks in use, the last runner, and zeros in the parts not in use.
