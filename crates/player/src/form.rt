@@ -46,10 +46,11 @@ fn job_fits(task: &Task, ran: bool, job: &Job) -> bool
     }
 }
 
-fn all_zero(units: &[u8]) -> bool
-    ensures { result ≡ list_all (λ units. units == 0) units.now }
+// Each part is this one.
+fn all_are<T: PartialEq>(parts: &[T], one: &T) -> bool
+    ensures { result ≡ list_all (λ part. T.eq part one.now) parts.now }
 {
-    units.iter().all(|units| *units == 0)
+    parts.iter().all(|part| part == one)
 }
 
 // A task's units beyond its steps are zero.
@@ -57,7 +58,7 @@ fn all_zero(units: &[u8]) -> bool
 fn is_tidy(task: &Task) -> bool
     ensures { result ≡ units_tidy (entry_of task.now) }
 {
-    all_zero(&task.pattern[task.fields()..])
+    all_are(&task.pattern[task.fields()..], &0)
 }
 
 // A task in use, its planned progress and its job.
@@ -102,19 +103,13 @@ fn last_fits(jobs: &[Job], last: Option<u8>) -> bool
 fn is_blank(task: &Task) -> bool
     ensures { result ≡ is_blank_task (entry_of task.now) }
 {
-    task.period == 0 && task.deadline == 0 && task.steps == 0 && all_zero(&task.pattern)
+    task.period == 0 && task.deadline == 0 && task.steps == 0 && all_are(&task.pattern, &0)
 }
 
 fn tasks_blank(tasks: &[Task]) -> bool
     ensures { result ≡ list_all (λ task. is_blank_task (entry_of task)) tasks.now }
 {
     tasks.iter().all(|task| is_blank(task))
-}
-
-fn plans_blank(planned: &[u16]) -> bool
-    ensures { result ≡ list_all (λ progress. progress == 0) planned.now }
-{
-    planned.iter().all(|progress| *progress == 0)
 }
 
 #[tactic(auto, unfolding(rules::specs::Lists::is_zero, rules::specs::States::is_blank_job, rules::specs::States::is_ready_stand, crate::specs::Views::job_of, crate::specs::Views::stand_of))]
@@ -131,7 +126,7 @@ fn rest_fits(state: &State) -> bool
 {
     let n = state.set.used().len();
     tasks_blank(&state.set.tasks[n..])
-        && plans_blank(&state.planned[n..])
+        && all_are(&state.planned[n..], &0)
         && jobs_blank(&state.jobs[n..])
 }
 
