@@ -5,8 +5,8 @@ ghost use Rattle.planner.specs.Area.{among};
 
 #[tactic(auto, using(crate::proofs::Records::alike))]
 // Whether the record at a place of the area is that of a slot and n tasks' progress.
-fn same_record(area: &[u16], at: usize, n: usize, slot: u16, progress: &[u16]) -> bool
-    requires { (n ≤ length progress.now) × (at + (n + 1) ≤ length area.now) }
+fn same_record(area: &[u16], at: usize, n: usize, slot: u16, progress: &[u16; 8]) -> bool
+    requires { (n ≤ 8) × (at + (n + 1) ≤ length area.now) }
     ensures { result ≡ same_list (slot ∷ take n progress.now) (take (n + 1) (drop at area.now)) }
 {
     slot == area[at] && progress[..n] == area[at + 1..at + 1 + n]
@@ -14,8 +14,8 @@ fn same_record(area: &[u16], at: usize, n: usize, slot: u16, progress: &[u16]) -
 
 #[tactic(auto, using(crate::proofs::Records::left_laws))]
 // Whether the record of a slot and n tasks' progress is among the first `recorded` of the area, from the newest to the oldest.
-pub(crate) fn seen(area: &[u16], recorded: usize, n: usize, slot: u16, progress: &[u16]) -> bool
-    requires { (n ≤ length progress.now) × (recorded * (n + 1) ≤ length area.now) }
+pub(crate) fn seen(area: &[u16], recorded: usize, n: usize, slot: u16, progress: &[u16; 8]) -> bool
+    requires { (n ≤ 8) × (recorded * (n + 1) ≤ length area.now) }
     ensures { result ≡ among (n + 1) area.now (slot ∷ take n progress.now) recorded }
 {
     for k in (0..recorded).rev() {
@@ -27,9 +27,9 @@ pub(crate) fn seen(area: &[u16], recorded: usize, n: usize, slot: u16, progress:
 }
 
 // The record of a slot and n tasks' progress, put behind the first `recorded` of the area.
-pub(crate) fn put(area: &mut [u16], recorded: usize, n: usize, slot: u16, progress: [u16; 8])
+pub(crate) fn put(area: &mut [u16], recorded: usize, n: usize, slot: u16, progress: &[u16; 8])
     requires { (n ≤ 8) × ((recorded + 1) * (n + 1) ≤ length area.old) }
-    ensures { area.new ≡ take (recorded * (n + 1)) area.old ++ ((slot ∷ take n progress) ++ drop ((recorded + 1) * (n + 1)) area.old) }
+    ensures { area.new ≡ take (recorded * (n + 1)) area.old ++ ((slot ∷ take n progress.now) ++ drop ((recorded + 1) * (n + 1)) area.old) }
 {
     let at = recorded * (n + 1);
     area[at] = slot;
