@@ -1,5 +1,6 @@
 -- The planner's reply in the code's terms, one law for each branch.
 use mathlib.Core.Path.{◌≡◌, refl, sym, ap, ◌∙◌}
+use mathlib.Core.Logic.{◌⊎◌, inl, inr}
 use mathlib.Core.Bool.{Bool, true, false, not}
 use mathlib.Core.List.{List, ◌++◌}
 use Prim.Native.Nat.{ℕ, zero, suc, ◌+◌, ◌≤◌, ◌<◌, ◌/◌}
@@ -15,8 +16,7 @@ use Rattle.rules.specs.Planner as model
 use Rattle.rules.proofs.Laws.{true-T}
 use Rattle.rules.proofs.Set.Widths.{hyper-small}
 use Rattle.tasks.specs.declared.TaskSet.{TaskSet}
-use Rattle.tasks.specs.Views.{record_of, set_of, progress_of, position_of, bounded}
-use Rattle.tasks.proofs.Multiple.{hyper-whole}
+use Rattle.tasks.specs.Views.{record_of, set_of, progress_of, position_of}
 use Rattle.tasks.proofs.Views.{arrays}
 use Rattle.tasks.proofs.Positions.{set-fits}
 use Rattle.planner.specs.declared.Word.{Word}
@@ -28,7 +28,7 @@ use Rattle.planner.specs.Machine.{Reaches, opened}
 use Rattle.tasks.specs.declared.refusal.Refusal.{Refusal}
 use Rattle.tasks.specs.declared.refusal.Refusal.TheVariants.{ListTooLong, Malformed, OutOfRange, LateDeadline, TaskCount, HyperTooLong, ShortTable, ShortBuffer, BadState, ReportCount, BadTable}
 use Rattle.tasks.specs.Refusals.{number_of}
-use Rattle.std.specs.Prelude.{Ok, Err}
+use Rattle.std.specs.Prelude.{Result, Ok, Err, IsErrAnd}
 use Rattle.planner.specs.Views.{word_of, answer_of, Opening, end_of, Ran}
 use Rattle.planner.proofs.LaidOut.{rows-tasks, rows-laid}
 use Rattle.planner.proofs.Places.{take-replicate}
@@ -70,6 +70,11 @@ module _ (s : TaskSet) (t a : List ℕ) where
   set-refused r e =
       let k = number-some r in
       refused-by (record_of s) t a (number_of r) k (rw e (or-first (number_of r) _ k))
+
+  -- a refusal that is passed on
+  pub set-refused-too : (r : Refusal) (q : Result Answer Refusal) → record_refusal (record_of s) ≡ number_of r → IsErrAnd q (λ o. o ≡ r) → PlanReply (record_of s) t a (answer_of q) t a
+  set-refused-too r (Ok w) e f = absurd f
+  set-refused-too r (Err o) e f = rw f (set-refused r e)
 
   module _ (h : ℕ) (admitted : record_refusal (record_of s) ≡ 0) (period-is : h ≡ hyper (set_of s)) where
     pub table-short : length t < h → PlanReply (record_of s) t a (answer_of (Err ShortTable)) t a
@@ -148,10 +153,6 @@ module _ (s : TaskSet) (t a : List ℕ) where
                   rw (e, ← R.counted, ← R.area_is) (plan-full (record_of s) (arrays s) t a no-refusal begun R.last t' (reached OutOfRoom e) (rw (R.table_is, ← period-is) q))
 
               -- without a schedule the first slots are idle
-              pub none_found : (w.word ≡ Schedule → ⊥) → t' ≡ replicate h 255 ++ drop h t₁ → PlanReply (record_of s) t a (answer_of (Ok w)) t' a₁
-              none_found n q = by-word w.word refl n
-                where
-                  by-word : (v : Word) → w.word ≡ v → (v ≡ Schedule → ⊥) → PlanReply (record_of s) t a (answer_of (Ok w)) t' a₁
-                  by-word Schedule e k = absurd (k refl)
-                  by-word Infeasible e k = none-exists e q
-                  by-word OutOfRoom e k = area-full e q
+              pub none_found : (w.word ≡ Infeasible) ⊎ (w.word ≡ OutOfRoom) → t' ≡ replicate h 255 ++ drop h t₁ → PlanReply (record_of s) t a (answer_of (Ok w)) t' a₁
+              none_found (inl e) q = none-exists e q
+              none_found (inr e) q = area-full e q

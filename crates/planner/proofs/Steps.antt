@@ -3,7 +3,7 @@ use mathlib.Core.Path.{◌≡◌, refl, sym, ◌∙◌}
 use mathlib.Core.Logic.{◌⊎◌, inl, inr}
 use mathlib.Core.Bool.{false}
 use mathlib.Core.List.{List}
-use Prim.Native.Nat.{ℕ, suc, ◌+◌, ◌-◌, ◌≤◌, ◌<◌}
+use Prim.Native.Nat.{ℕ, suc, ◌+◌, ◌≤◌, ◌<◌}
 use native.Mathlib.Omega.{arith}
 use native.Mathlib.Nat.{mul-le-mul_right}
 use borrow.Author.Tests.{eq-eqb, ne_eqb, lt-ltb, le-ltb}
@@ -11,7 +11,7 @@ use lib.Dec.{eqb}
 use Rattle.rules.specs.Tasks as model
 use Rattle.rules.specs.Hyper.{hyper}
 use Rattle.rules.specs.Positions.{idle}
-use Rattle.std.specs.Prelude.{Option, Some, None, min}
+use Rattle.std.specs.Prelude.{Some, None, min}
 use Rattle.planner.specs.declared.Word.TheVariants.{Schedule, OutOfRoom}
 use Rattle.planner.specs.declared.search.Choice.{Choice}
 use Rattle.planner.specs.declared.search.Choice.TheVariants.{Task, Idle}
@@ -21,7 +21,7 @@ use Rattle.planner.specs.declared.search.Stepped.TheVariants.{Going, Ended}
 use Rattle.planner.specs.Rows.{row_tasks}
 use Rattle.planner.specs.Machine as machine
 use Rattle.planner.specs.Machine.{Machine, following, giving, step_of, Tries, Took, once, tries}
-use Rattle.planner.specs.Views.{number_of, number_in, machine_of, end_of, Ends, Gives, shut, Stepping, Trying, Recording, Fits}
+use Rattle.planner.specs.Views.{number_of, machine_of, end_of, Gives, shut, Stepping, Trying, Recording, Fits}
 use Rattle.rules.proofs.Laws.{le-or-lt}
 use Rattle.planner.proofs.Searching.{lt_of}
 

@@ -1,19 +1,19 @@
 -- The choices of a slot, tried one behind the other from one look ahead.
 use mathlib.Core.Path.{◌≡◌, refl, sym, ◌∙◌}
 use mathlib.Core.Logic.{◌⊎◌, inl, inr}
-use mathlib.Core.Bool.{Bool, true, false, not, cond, ◌&&◌, and-false}
+use mathlib.Core.Bool.{Bool, true, false, not, ◌&&◌, and-false}
 use mathlib.Core.List.{List, ◌∷◌}
 use Prim.Native.Nat.{ℕ, zero, suc, ◌+◌, ◌-◌, ◌^◌, ◌≤◌, ◌<◌}
 use native.Mathlib.Numerals.{add-one}
 use native.Mathlib.Omega.{arith}
-use borrow.Author.Tests.{eq-eqb, ne_eqb, lt-ltb, le-ltb}
-use lib.Dec.{eqb, ltb}
+use borrow.Author.Tests.{eq-eqb, ne_eqb}
+use lib.Dec.{eqb}
 use lib.ListN.{length, get_or, take, set}
 use lib.Seq.{length-take-le}
 use Rattle.rules.specs.Tasks as model
 use Rattle.rules.specs.Tasks.{no_task}
 use Rattle.rules.specs.Positions.{idle, ended, next, legal}
-use Rattle.rules.proofs.Lists.{clash-bool, and_parts}
+use Rattle.rules.proofs.Lists.{and_parts}
 use Rattle.std.specs.Prelude.{Option, Some, None}
 use Rattle.planner.specs.declared.search.Choice.{Choice}
 use Rattle.planner.specs.declared.search.Choice.TheVariants.{Task}
@@ -23,7 +23,7 @@ use Rattle.planner.specs.Marks.{mark}
 use Rattle.planner.specs.Area.{among}
 use Rattle.planner.specs.Ahead.{Ahead, leads_by, leads_task, gone, First, hit, none, led_to}
 use Rattle.planner.specs.Machine.{Machine, following, here, leads_on, pushed, passed_over, Tries, adds, passes, spent}
-use Rattle.planner.specs.Views.{number_of, number_in, machine_of, Trying}
+use Rattle.planner.specs.Views.{number_of, machine_of, Trying}
 use Rattle.planner.proofs.Marks.{mark-byte}
 use Rattle.planner.proofs.Steps.{behind-idle, behind-last, behind-task}
 use Rattle.planner.proofs.Places.{rows-length}

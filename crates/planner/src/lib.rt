@@ -37,6 +37,7 @@ pub struct Answer {
     pub dead: usize,
 }
 
+#[tactic(auto, using(crate::proofs::Admits::admit_laws))]
 // The hyper-period of an admissible set.
 fn admit(set: &TaskSet) -> Result<u16, Refusal>
     ensures { MatchResult result (λ h. (record_refusal (record_of set.now) ≡ 0) × (h ≡ hyper (set_of set.now))) (λ r. record_refusal (record_of set.now) ≡ number_of r) }

@@ -1,13 +1,13 @@
 -- `planner::plan` replies as the rules say. Assumes nothing.
 use borrow.Author.Rules.{rules}
 use native.Mathlib.Omega.{arith}
-use Rattle.planner.proofs.Replies.{few-more, set-refused, table-short, never-begun, opens, may-spell, first_found, none_found}
+use Rattle.planner.proofs.Replies.{few-more, set-refused-too, table-short, never-begun, opens, may-spell, first_found, none_found}
 use mathlib.Core.Path.{ap}
 use mathlib.Core.Bool.{not}
 use Rattle.planner.proofs.plan.Goals as goal
 
 pub returns-in_err-h : goal.returns-in_err-h
-returns-in_err-h c = let h = c.in_err-h.ensures in let e = c.from_residual.ensures in let f = c.in_err-h.is in ?
+returns-in_err-h c = set-refused-too _ _ _ _ _ c.in_err-h.ensures c.from_residual.ensures.1
 
 pub returns-then-table-slots : goal.returns-then-table-slots
 returns-then-table-slots c = table-short _ _ _ _ c.in_ok-h.ensures.0 c.in_ok-h.ensures.1 c.if-table-slots.true
@@ -35,4 +35,5 @@ returns-in-Schedule c =
     first_found _ _ _ _ c.in_ok-h.ensures.0 c.in_ok-h.ensures.1 c.if-table-slots.false _ c.live.ensures (ap not c.if-not-live.false) _ c.tasks_in-n.ensures _ (search rules) c.lay_out.ensures _ _ _ c.run-answer.ensures _ c.in-Schedule.is c.spell.ensures
 
 pub returns-in-Infeasible : goal.returns-in-Infeasible
-returns-in-Infeasible c = ?
+returns-in-Infeasible c =
+    none_found _ _ _ _ c.in_ok-h.ensures.0 c.in_ok-h.ensures.1 c.if-table-slots.false _ c.live.ensures (ap not c.if-not-live.false) _ c.tasks_in-n.ensures _ (search rules) c.lay_out.ensures _ _ _ c.run-answer.ensures _ c.in-Infeasible.is c.fill-in-Infeasible.ensures

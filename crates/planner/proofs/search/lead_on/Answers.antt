@@ -1,8 +1,6 @@
 -- `planner::search::lead_on` adds the first choice that leads on to the list, or finds none. Assumes nothing.
 use borrow.Author.Rules.{rules}
 use Rattle.planner.proofs.Trials.{mark-fits, adds-task, adds-idle, spent_seen, spent-urgent}
-use mathlib.Core.Path.{ap}
-use mathlib.Core.Bool.{not}
 use Rattle.planner.proofs.search.lead_on.Goals as goal
 use Rattle.planner.proofs.search.lead_on.Goals.{in-Some, in-None, then-ahead-eq256+else-not-seen, else-ahead-eq256}
 
