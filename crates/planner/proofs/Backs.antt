@@ -7,6 +7,7 @@ use borrow.Author.Tests.{eq-eqb, ne_eqb}
 use lib.ListN.{get_or, take, drop}
 use Rattle.rules.specs.Lists.{is_zero}
 use Rattle.rules.specs.Positions.{each}
+use Rattle.tasks.specs.declared.timed.Timed.{Timed}
 use Rattle.planner.specs.declared.search.Search.{Search}
 use Rattle.planner.specs.declared.search.Status.TheVariants.{Going, Failed}
 use Rattle.planner.specs.Rows.{row_tasks}
@@ -15,7 +16,7 @@ use Rattle.planner.specs.Machine.{following, noted, last_mark, earlier, last_cho
 use Rattle.planner.specs.Views.{status_of, machine_of, stepped_of, shut}
 use Rattle.planner.proofs.Places.{rows-length}
 
-module _ (n : ℕ) (rows : List ℕ) (at : Search) (t a b : List ℕ)
+module _ (n : ℕ) (rows : List Timed) (at : Search) (t a b : List ℕ)
     (put : b ≡ take (at.recorded * (n + 1)) a ++ ((at.slot ∷ take n at.progress) ++ drop ((at.recorded + 1) * (n + 1)) a)) where
   put_is : b ≡ noted (row_tasks n rows) (machine_of n at t a)
   unfolding noted machine_of

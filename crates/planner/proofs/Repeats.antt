@@ -13,6 +13,7 @@ use Rattle.rules.specs.Positions.{idle}
 use Rattle.rules.proofs.Laws.{true-T}
 use Rattle.rules.proofs.Lists.{clash-bool}
 use Rattle.rules.proofs.Plan.Ends.{left}
+use Rattle.tasks.specs.declared.timed.Timed.{Timed}
 use Rattle.planner.specs.declared.Word.{Word}
 use Rattle.planner.specs.declared.Word.TheVariants.{Schedule, Infeasible, OutOfRoom}
 use Rattle.planner.specs.declared.search.Search.{Search}
@@ -85,7 +86,7 @@ module _ (s : List Task) (K : ℕ) (table area : List ℕ) (S : Setting s K tabl
 
 -- ── the loop ────────────────────────────────────────────────────────────────
 
-module _ (n : ℕ) (rows : List ℕ) (h K : ℕ) (t₀ a₀ : List ℕ) where
+module _ (n : ℕ) (rows : List Timed) (h K : ℕ) (t₀ a₀ : List ℕ) where
   abbrev s : List Task
   s = row_tasks n rows
 

@@ -11,6 +11,7 @@ use lib.Dec.{eqb}
 use Rattle.rules.specs.Tasks.{Task}
 use Rattle.rules.specs.Hyper.{hyper}
 use Rattle.rules.specs.Positions.{idle}
+use Rattle.tasks.specs.declared.timed.Timed.{Timed}
 use Rattle.planner.specs.declared.search.Search.{Search}
 use Rattle.planner.specs.declared.search.Stepped.{Stepped}
 use Rattle.planner.specs.declared.search.Status.TheVariants.{Going, Found, NoRoom}
@@ -38,7 +39,7 @@ pub ruleset behind-laws = (behind-idle, behind-last, behind-task)
 
 -- ── one step ────────────────────────────────────────────────────────────────
 
-module _ (n : ℕ) (rows : List ℕ) (h room : ℕ) (at : Search) (t a : List ℕ) (fits : Fits n rows h room at t a) where
+module _ (n : ℕ) (rows : List Timed) (h room : ℕ) (at : Search) (t a : List ℕ) (fits : Fits n rows h room at t a) where
   abbrev s : List Task
   s = row_tasks n rows
 

@@ -13,6 +13,7 @@ use lib.Seq.{length-take-le}
 use Rattle.rules.specs.Tasks.{Task, no_task}
 use Rattle.rules.specs.Positions.{idle, ended, next, legal}
 use Rattle.rules.proofs.Lists.{clash-bool, and_parts}
+use Rattle.tasks.specs.declared.timed.Timed.{Timed}
 use Rattle.planner.specs.declared.search.Search.{Search}
 use Rattle.planner.specs.Rows.{row_tasks}
 use Rattle.planner.specs.Marks.{mark}
@@ -129,7 +130,7 @@ module _ (s : List Task) (n : ℕ) (count : length s ≡ n) (few : length s ≤ 
 
 -- ── in the code's terms ─────────────────────────────────────────────────────
 
-module _ (n : ℕ) (rows : List ℕ) (at : Search) (table area : List ℕ) (R : Trying n rows at table area) (waits urgent : ℕ) (stay going : List ℕ)
+module _ (n : ℕ) (rows : List Timed) (at : Search) (table area : List ℕ) (R : Trying n rows at table area) (waits urgent : ℕ) (stay going : List ℕ)
     (A : Ahead (row_tasks n rows) at.slot (take n at.progress) waits urgent stay going) (c : ℕ)
     (F : First (leads_task n urgent (at.slot + 1) at.recorded going stay area) n at.choice c) (whole : 8 ≡ length at.progress) (eight : 8 ≡ length stay) where
   abbrev start : Machine

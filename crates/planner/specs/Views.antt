@@ -1,10 +1,11 @@
 -- What the planner's structs and enums stand for in the rules and in the search.
-use Rattle.std.specs.Prelude.{◌≡◌, true, cond, ◌⊎◌, List, ℕ, suc, ◌*◌, ◌≤◌, ◌<◌, length, get_or, take}
+use Rattle.std.specs.Prelude.{◌≡◌, true, cond, ◌⊎◌, List, ℕ, suc, ◌*◌, ◌≤◌, ◌<◌, length, take}
 use Rattle.rules.specs.Lists.{is_zero}
-use Rattle.rules.specs.Tasks.{Task, no_task}
+use Rattle.rules.specs.Tasks.{Task, Fit}
 use Rattle.rules.specs.Hyper.{hyper}
 use Rattle.rules.specs.Positions.{live_position, start}
 use Rattle.rules.specs.Planner as model
+use Rattle.tasks.specs.declared.timed.Timed.{Timed}
 use Rattle.planner.specs.Rows.{row_tasks, Laid}
 use Rattle.planner.specs.Machine as machine
 use Rattle.planner.specs.Machine.{Machine, giving, emptied, backed, Reaches}
@@ -44,7 +45,7 @@ unfoldable pub shut : List Task → Machine → machine.Stepped
 shut s m = cond (is_zero m.slot) (giving machine.failed (emptied s m)) (giving machine.going (backed s m))
 
 -- a choice to try, a slot of the table for its mark, and an area that holds the records
-pub record Trying (n : ℕ) (rows : List ℕ) (at : Search) (table area : List ℕ) : Type 0 where
+pub record Trying (n : ℕ) (rows : List Timed) (at : Search) (table area : List ℕ) : Type 0 where
   pub laid : Laid n rows
   pub slots : at.slot < length table
   pub few : at.slot < 4096
@@ -52,13 +53,13 @@ pub record Trying (n : ℕ) (rows : List ℕ) (at : Search) (table area : List �
   pub records : at.recorded * suc n ≤ length area
 
 -- room for one more record, and the marks of the slots passed
-pub record Recording (n : ℕ) (rows : List ℕ) (at : Search) (table area : List ℕ) : Type 0 where
+pub record Recording (n : ℕ) (rows : List Timed) (at : Search) (table area : List ℕ) : Type 0 where
   pub laid : Laid n rows
   pub slots : at.slot ≤ length table
   pub more : suc at.recorded * suc n ≤ length area
 
 -- what every step keeps: the numbers fit the buffers
-pub record Fits (n : ℕ) (rows : List ℕ) (h room : ℕ) (at : Search) (table area : List ℕ) : Type 0 where
+pub record Fits (n : ℕ) (rows : List Timed) (h room : ℕ) (at : Search) (table area : List ℕ) : Type 0 where
   pub laid : Laid n rows
   pub period : h ≡ hyper (row_tasks n rows)
   pub few : h ≤ 4096
@@ -69,10 +70,10 @@ pub record Fits (n : ℕ) (rows : List ℕ) (h room : ℕ) (at : Search) (table 
   pub holds : room * suc n ≤ length area
 
 -- what a run begins with: rows of tasks, a live start, a table that is long enough, and the room of the area
-pub record Opening (n : ℕ) (rows : List ℕ) (h room : ℕ) (table area : List ℕ) : Type 0 where
+pub record Opening (n : ℕ) (rows : List Timed) (h room : ℕ) (table area : List ℕ) : Type 0 where
   pub laid : Laid n rows
   pub some : 0 < n
-  pub due : (j : ℕ) → j < n → 0 < (get_or (row_tasks n rows) j no_task).deadline
+  pub fit : Fit (row_tasks n rows)
   pub period : h ≡ hyper (row_tasks n rows)
   pub few : h ≤ 4096
   pub long : h ≤ length table

@@ -53,8 +53,7 @@ pub fn plan(set: TaskSet, table: &mut [u8], area: &mut [u16]) -> Answer
     }
     let n = tasks_in(set);
     let room = area.len() / (n + 1);
-    let mut rows = [0u16; 128];
-    lay_out(set, &mut rows);
+    let rows = lay_out(&set);
     let ended = run(&rows, n, h, room, table, area);
     let word = ended.word;
     let recorded = ended.recorded;

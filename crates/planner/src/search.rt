@@ -1,15 +1,16 @@
 // The search for the first schedule: a step adds the first choice that leads on or finds none, or records one dead position and takes back one
 // choice of the list under trial.
-ghost use Rattle.std.specs.Prelude.{◌≡◌, cond, suc, ◌-◌, ◌*◌, ◌≤◌, ltb, length, get_or, set};
+ghost use Rattle.std.specs.Prelude.{◌≡◌, cond, suc, ◌-◌, ◌*◌, ◌≤◌, ltb, length, get_or, map, set};
 ghost use Rattle.planner.specs.Rows.{row_tasks};
-ghost use Rattle.planner.specs.Ahead.{leads_task, First};
+ghost use Rattle.planner.specs.Ahead.{one_more, urgent_of, leads_task, First};
 ghost use Rattle.planner.specs.Machine.{following, opened, Tries, Took};
 ghost use Rattle.planner.specs.Views.{status_of, machine_of, stepped_of, shut, Trying, Recording, Fits, Opening, end_of, Ran};
 
 use crate::Word;
-use crate::ahead::{bit_of, leads, look_ahead};
+use crate::ahead::{Urgent, bit_of, leads, look_ahead};
 use crate::area::{put, seen};
 use crate::mark::{choice_from, take_back};
+use tasks::timed::Timed;
 
 // The position that the list under trial leads to, the choice to try behind it (256: all are tried), and the number of records.
 #[derive(Clone, Copy)]
@@ -53,30 +54,29 @@ fn choice_behind(n: usize, c: u16) -> u16
 fn first_task(
     n: usize,
     from: u16,
-    urgent: u16,
+    urgent: Urgent,
     slot: u16,
     recorded: usize,
-    go: &[u16],
-    stay: &mut [u16],
+    go: &[Option<u16>; 8],
+    stay: &mut [u16; 8],
     area: &[u16],
 ) -> u16
     requires n_bound { n ≤ 8 }
-    requires go_len { length go.now ≡ 8 }
-    requires stay_len { length stay.old ≡ 8 }
     requires n_in_bounds { recorded * suc n ≤ length area.now }
-    ensures first { First (leads_task n urgent slot recorded go.now stay.old area.now) n from result }
-    ensures reached { stay.new ≡ cond (ltb result n) (set stay.old result (get_or go.now result 0 - 1)) stay.old }
+    ensures first { First (leads_task n (urgent_of urgent) slot recorded (map one_more go.now) stay.old area.now) n from result }
+    ensures reached { stay.new ≡ cond (ltb result n) (set stay.old result (get_or (map one_more go.now) result 0 - 1)) stay.old }
 {
     let mut i = from as usize;
     while i < n {
-        let to = go[i];
-        if leads(urgent, to, i as u16) {
-            let unchosen = stay[i];
-            stay[i] = to - 1;
-            if !seen(area, recorded, n, slot, stay) {
-                return i as u16;
+        if let Some(to) = go[i] {
+            if leads(urgent, i as u8) {
+                let unchosen = stay[i];
+                stay[i] = to;
+                if !seen(area, recorded, n, slot, stay) {
+                    return i as u16;
+                }
+                stay[i] = unchosen;
             }
-            stay[i] = unchosen;
         }
         i += 1;
     }
@@ -84,16 +84,16 @@ fn first_task(
 }
 
 // The first choice that leads to a live position which is not recorded is added to the list; where there is none, all are tried.
-fn lead_on(rows: &[u16], n: usize, at: Search, table: &mut [u8], area: &[u16]) -> Search
+fn lead_on(rows: &[Timed; 8], n: usize, at: Search, table: &mut [u8], area: &[u16]) -> Search
     requires { Trying n rows.now at table.old area.now }
     ensures { Tries (row_tasks n rows.now) (machine_of n at table.old area.now) (machine_of n result table.new area.now) }
 {
     let slot = at.slot;
     let progress = at.progress;
     let recorded = at.recorded;
-    let mut stay = [0u16; 8];
-    let mut go = [0u16; 8];
-    let ahead = look_ahead(rows, n, slot, &progress, &mut stay, &mut go);
+    let ahead = look_ahead(rows, n, slot, &progress);
+    let go = ahead.go;
+    let mut stay = ahead.stay;
     let c = first_task(
         n,
         at.choice,
@@ -114,7 +114,7 @@ fn lead_on(rows: &[u16], n: usize, at: Search, table: &mut [u8], area: &[u16]) -
             recorded,
         };
     }
-    if ahead.urgent == 256 {
+    if ahead.urgent == Urgent::Nobody {
         if !seen(area, recorded, n, slot + 1, &stay) {
             table[i] = ahead.waits;
             return Search {
@@ -134,7 +134,7 @@ fn lead_on(rows: &[u16], n: usize, at: Search, table: &mut [u8], area: &[u16]) -
 }
 
 // With no choice left to try the position is dead: it is recorded, and the last choice taken back.
-fn record_dead(rows: &[u16], n: usize, at: Search, table: &[u8], area: &mut [u16]) -> Stepped
+fn record_dead(rows: &[Timed; 8], n: usize, at: Search, table: &[u8], area: &mut [u16]) -> Stepped
     requires { Recording n rows.now at table.now area.old }
     ensures { stepped_of n result table.now area.new ≡ shut (row_tasks n rows.now) (machine_of n at table.now area.old) }
 {
@@ -172,7 +172,7 @@ fn record_dead(rows: &[u16], n: usize, at: Search, table: &[u8], area: &mut [u16
 
 // One step of the search, of a hyper-period of h slots, in an area with room for so many records.
 fn step(
-    rows: &[u16],
+    rows: &[Timed; 8],
     n: usize,
     h: u16,
     room: usize,
@@ -214,7 +214,7 @@ pub struct Ended {
 
 // The search from its start to its end.
 pub(crate) fn run(
-    rows: &[u16],
+    rows: &[Timed; 8],
     n: usize,
     h: u16,
     room: usize,
