@@ -1,23 +1,22 @@
 -- What a slot does to a task in the code's terms, and what the look ahead keeps, from the last task down.
-use mathlib.Core.Path.{◌≡◌, refl, sym, ap, ◌∙◌}
+use mathlib.Core.Path.{◌≡◌, refl, sym, ◌∙◌}
 use mathlib.Core.Logic.{◌⊎◌, inl, inr}
-use mathlib.Core.Bool.{Bool, true, false, not, cond, ◌&&◌, ◌||◌}
-use mathlib.Core.List.{List, [], ◌∷◌, map}
+use mathlib.Core.Bool.{Bool, true, false, not, cond}
+use mathlib.Core.List.{List, map}
 use Rattle.std.specs.Prelude.{Option}
-use Prim.Native.Nat.{ℕ, zero, suc, ◌+◌, ◌-◌, ◌*◌, ◌^◌, ◌%◌, ◌≤◌, ◌<◌}
-use native.Mathlib.Nat.{mod_self, suc-mod}
+use Prim.Native.Nat.{ℕ, suc, ◌+◌, ◌-◌, ◌*◌, ◌%◌, ◌≤◌, ◌<◌}
 use native.Mathlib.Numerals.{add-one}
 use native.Mathlib.Omega.{arith}
-use borrow.Author.Tests.{eq-eqb, ne_eqb, eqb-true, not-true, not-false}
+use borrow.Author.Tests.{eq-eqb, ne_eqb}
 use lib.Dec.{eqb}
 use mir.Syntax.{w8, w16}
 use mir.Val.{Fits, bool_byte}
 use lib.ListN.{length-map, length, get_or, take, drop, set, length-set, length-drop, drop_of_length-le}
 use lib.Seq.{map-set, drop-cons, length-take-le, get_or-take, get_or-set_same, get_or-set_other}
-use Rattle.rules.specs.Tasks.{Task, no_task, span, done, standing, is_ready, is_done}
-use Rattle.rules.specs.Positions.{idle, moved, passed, ended, starts, in_time, ends_well}
-use Rattle.rules.proofs.Laws.{T_true, true-T, le-or-lt, in_time-use, in_time-lax, in_time-done, is_done-span, span-is_done}
-use Rattle.rules.proofs.Run.Reach.{since-suc, ended-length, ended_at}
+use Rattle.rules.specs.Tasks.{Task, no_task, span, standing, is_ready, is_done}
+use Rattle.rules.specs.Positions.{idle, moved, passed, ended}
+use Rattle.rules.proofs.Laws.{le-or-lt}
+use Rattle.rules.proofs.Run.Reach.{ended-length, ended_at}
 use Rattle.tasks.specs.declared.Standing as code
 use Rattle.tasks.specs.declared.Standing.TheVariants.{Ready, Waiting, Done}
 use Rattle.tasks.specs.Views.{standing_of}

@@ -61,7 +61,12 @@ pub record Ahead (s : List Task) (t : ℕ) (ps : List ℕ) (waits urgent : ℕ) 
 unfoldable pub leads_task : ℕ → ℕ → ℕ → ℕ → List ℕ → List ℕ → List ℕ → ℕ → Bool
 leads_task n urgent slot recorded go stay area c = leads_by urgent (get_or go c 0) c && not (among (suc n) area (slot ∷ take n (set stay c (get_or go c 0 - 1))) recorded)
 
--- the first number from `from` on, below n, that passes a test, or 255
-pub data First (test : ℕ → Bool) (n from : ℕ) : ℕ → Type 0 where
-  hit : {c : ℕ} → from ≤ c → c < n → test c ≡ true → ((d : ℕ) → from ≤ d → d < c → test d ≡ false) → First test n from c
-  none : ((d : ℕ) → from ≤ d → d < n → test d ≡ false) → First test n from 255
+-- the first number from `from` on, below n, that passes a test, or none
+pub data First (test : ℕ → Bool) (n from : ℕ) : Option ℕ → Type 0 where
+  hit : {c : ℕ} → from ≤ c → c < n → test c ≡ true → ((d : ℕ) → from ≤ d → d < c → test d ≡ false) → First test n from (Some c)
+  none : ((d : ℕ) → from ≤ d → d < n → test d ≡ false) → First test n from None
+
+-- the progress in the next slot once a task is chosen, or none is
+unfoldable pub led_to : Option ℕ → List ℕ → List ℕ → List ℕ
+led_to (Some c) go stay = set stay c (get_or go c 0 - 1)
+led_to None go stay = stay

@@ -66,6 +66,22 @@ pub enum Urgent {
     Several,
 }
 
+impl Urgent {
+    // No task has to be chosen.
+    pub(crate) fn is_nobody(self) -> bool
+        ensures { result ≡ eqb (urgent_of self) 256 }
+    {
+        self == Urgent::Nobody
+    }
+
+    // No other task has to be chosen.
+    pub(crate) fn allows(self, c: u8) -> bool
+        ensures { result ≡ eqb (urgent_of self) 256 || eqb (urgent_of self) c }
+    {
+        self == Urgent::Nobody || self == Urgent::Only(c)
+    }
+}
+
 // The tasks that have to be chosen, with one more task considered.
 #[tactic(auto, using(crate::proofs::Outlooks::claim_laws))]
 fn claim_of(urgent: Urgent, well: bool, i: u8) -> Urgent
@@ -110,13 +126,6 @@ pub(crate) fn look_ahead(rows: &[Timed; 8], n: usize, slot: u16, progress: &[u16
         stay,
         go,
     }
-}
-
-// Every task ends the slot well once this one, which does, is chosen.
-pub(crate) fn leads(urgent: Urgent, c: u8) -> bool
-    ensures { result ≡ eqb (urgent_of urgent) 256 || eqb (urgent_of urgent) c }
-{
-    urgent == Urgent::Nobody || urgent == Urgent::Only(c)
 }
 
 // The bit of a task in a mark.
