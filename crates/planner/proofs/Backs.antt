@@ -8,6 +8,7 @@ use borrow.Author.Tests.{eq-eqb, ne_eqb}
 use lib.ListN.{get_or, take, drop}
 use Rattle.rules.specs.Lists.{is_zero}
 use Rattle.rules.specs.Positions.{each}
+use Rattle.tasks.specs.declared.timed.Timed.{Timed}
 use Rattle.planner.specs.declared.search.Search.{Search}
 use Rattle.planner.specs.declared.Word.TheVariants.{Infeasible}
 use Rattle.planner.specs.declared.search.Choice.{Choice}
@@ -18,7 +19,7 @@ use Rattle.planner.specs.Machine.{giving, following, noted, last_mark, earlier, 
 use Rattle.planner.specs.Views.{number_in, machine_of, end_of, Gives, shut}
 use Rattle.planner.proofs.Places.{rows-length}
 
-module _ (n : ℕ) (rows : List ℕ) (at : Search) (t a b : List ℕ)
+module _ (n : ℕ) (rows : List Timed) (at : Search) (t a b : List ℕ)
     (put : b ≡ take (at.recorded * (n + 1)) a ++ ((at.slot ∷ take n at.progress) ++ drop ((at.recorded + 1) * (n + 1)) a)) where
   put_is : b ≡ noted (row_tasks n rows) (machine_of n at t a)
   unfolding noted machine_of

@@ -16,6 +16,7 @@ use Rattle.rules.specs.Positions.{idle}
 use Rattle.rules.proofs.Laws.{true-T}
 use Rattle.rules.proofs.Lists.{clash-bool}
 use Rattle.rules.proofs.Plan.Ends.{left}
+use Rattle.tasks.specs.declared.timed.Timed.{Timed}
 use Rattle.planner.specs.declared.Word.{Word}
 use Rattle.planner.specs.declared.Word.TheVariants.{Schedule, Infeasible, OutOfRoom}
 use Rattle.planner.specs.declared.Answer.{Answer}
@@ -23,11 +24,11 @@ use Rattle.planner.specs.declared.search.Choice as choices
 use Rattle.planner.specs.declared.search.Choice.TheVariants.{Task}
 use Rattle.planner.specs.declared.search.Search.{Search}
 use Rattle.planner.specs.declared.search.Stepped.TheVariants.{Going, Ended}
-use Rattle.planner.specs.Rows.{task_at, row_tasks}
+use Rattle.planner.specs.Rows.{row_tasks}
 use Rattle.planner.specs.Machine as machine
 use Rattle.planner.specs.Machine.{Machine, is_going, giving, leads_on, pushed, passed_over, step_of, Tries, adds, passes, spent, Took, once, tries, Reaches, ends, steps, opened}
 use Rattle.planner.specs.Views.{number_of, number_in, machine_of, Gives, Ends, Stepping, Fits, Opening, end_of, Ran}
-use Rattle.planner.proofs.Places.{rows-length, row_at, take-replicate}
+use Rattle.planner.proofs.Places.{rows-length, take-replicate}
 use Rattle.planner.proofs.Searching.{Setting, Choice, Searching, opened-searching, step-searching, step_falls}
 use Rattle.planner.proofs.Steps.{number-few}
 use Rattle.planner.proofs.Bounds.{room-holds, area-length}
@@ -90,7 +91,7 @@ module _ (s : List model.Task) (K : ℕ) (table area : List ℕ) (S : Setting s 
 
 -- ── the loop ────────────────────────────────────────────────────────────────
 
-module _ (n : ℕ) (rows : List ℕ) (h K : ℕ) (t₀ a₀ : List ℕ) where
+module _ (n : ℕ) (rows : List Timed) (h K : ℕ) (t₀ a₀ : List ℕ) where
   abbrev s : List model.Task
   s = row_tasks n rows
 
@@ -102,16 +103,10 @@ module _ (n : ℕ) (rows : List ℕ) (h K : ℕ) (t₀ a₀ : List ℕ) where
     pub good : Searching s K t₀ a₀ (machine_of n at t a)
     pub back : (e : machine.Status) (o : Machine) → Reaches s K (machine_of n at t a) e o → Reaches s K (opened s t₀ a₀) e o
 
-  fit : Opening n rows h K t₀ a₀ → Fit s
-  unfolding task_at
-  fit O =
-      let l = rows-length n rows in
-      record { due = λ j k. O.due j (omega arith); fits = λ j k. rw (row_at n rows j (omega arith)) (O.laid.row j (omega arith)).fits }
-
   setting : Opening n rows h K t₀ a₀ → Setting s K t₀ a₀
   setting O =
       let l = rows-length n rows in let f = O.laid.few in let p = O.period in let w = O.long in let x = O.some in
-      record { fit = fit O; some-task = omega arith; few = omega arith; begun = true-T _ O.begun; wide = omega arith; room_is = O.room_is }
+      record { fit = O.fit; some-task = omega arith; few = omega arith; begun = true-T _ O.begun; wide = omega arith; room_is = O.room_is }
 
   begun-is : n ≤ 8 → machine_of n (record { slot = 0; progress = replicate 8 0; choice = Some (Task 0); recorded = 0 }) t₀ a₀ ≡ opened s t₀ a₀
   unfolding machine_of opened

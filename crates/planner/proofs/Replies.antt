@@ -13,12 +13,12 @@ use Rattle.rules.specs.Positions.{Position, start, live_position}
 use Rattle.rules.specs.Records.{SetRecord, or_else, set_in, record_refusal}
 use Rattle.rules.specs.Planner.{room, plan_refusal, PlanReply, refuses}
 use Rattle.rules.specs.Planner as model
-use Rattle.rules.proofs.Laws.{true-T}
 use Rattle.rules.proofs.Set.Widths.{hyper-small}
 use Rattle.tasks.specs.declared.TaskSet.{TaskSet}
 use Rattle.tasks.specs.Views.{record_of, set_of, progress_of, position_of}
 use Rattle.tasks.proofs.Views.{arrays}
 use Rattle.tasks.proofs.Positions.{set-fits}
+use Rattle.tasks.specs.declared.timed.Timed.{Timed}
 use Rattle.planner.specs.declared.Word.{Word}
 use Rattle.planner.specs.declared.Word.TheVariants.{Schedule, Infeasible, OutOfRoom}
 use Rattle.planner.specs.declared.Answer.{Answer}
@@ -30,7 +30,7 @@ use Rattle.tasks.specs.declared.refusal.Refusal.TheVariants.{ListTooLong, Malfor
 use Rattle.tasks.specs.Refusals.{number_of}
 use Rattle.std.specs.Prelude.{Result, Ok, Err, IsErrAnd}
 use Rattle.planner.specs.Views.{word_of, answer_of, Opening, end_of, Ran}
-use Rattle.planner.proofs.LaidOut.{rows-tasks, rows-laid}
+use Rattle.planner.proofs.Places.{rows-tasks}
 use Rattle.planner.proofs.Places.{take-replicate}
 use Rattle.planner.proofs.Meets.{reaches-listed, reaches-size, plan-setting, plan-found, plan-failed, plan-full, plan-dead}
 
@@ -94,7 +94,7 @@ module _ (s : TaskSet) (t a : List ℕ) where
         unfolding answer_of word_of set_of
         never-begun n t' e = plan-dead (record_of s) (arrays s) t a no-refusal (at-start ∙ not-true b n) t' (rw (← period-is) e)
 
-        module _ (go : not b ≡ false) (n : ℕ) (few : n ≡ length (set_of s)) (rows : List ℕ) (long : length rows ≡ 128) (are : AreRows s (length (set_of s)) rows) where
+        module _ (go : not b ≡ false) (n : ℕ) (few : n ≡ length (set_of s)) (rows : List Timed) (long : length rows ≡ 8) (are : AreRows s rows) where
           begun : live_position (set_of s) (start (set_of s)) ≡ true
           begun = at-start ∙ not-false b go
 
@@ -102,7 +102,7 @@ module _ (s : TaskSet) (t a : List ℕ) where
           tasks-are = rw few (rows-tasks s rows long are)
 
           laid : Laid n rows
-          laid = rw few (rows-laid s rows long are admitted (true-T _ begun))
+          laid = let f = set-fits s in record { few = omega arith }
 
           pub opens : Opening n rows h (length a / (n + 1)) t a
           unfolding room set_of
@@ -115,7 +115,7 @@ module _ (s : TaskSet) (t a : List ℕ) where
               record {
                 laid = laid;
                 some = omega arith;
-                due = λ j k. rw e (S.fit.due j (omega arith));
+                fit = rw e S.fit;
                 period = rw e p;
                 few = omega arith;
                 long = wide;

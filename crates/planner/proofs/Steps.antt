@@ -12,6 +12,7 @@ use Rattle.rules.specs.Tasks as model
 use Rattle.rules.specs.Hyper.{hyper}
 use Rattle.rules.specs.Positions.{idle}
 use Rattle.std.specs.Prelude.{Some, None, min}
+use Rattle.tasks.specs.declared.timed.Timed.{Timed}
 use Rattle.planner.specs.declared.Word.TheVariants.{Schedule, OutOfRoom}
 use Rattle.planner.specs.declared.search.Choice.{Choice}
 use Rattle.planner.specs.declared.search.Choice.TheVariants.{Task, Idle}
@@ -55,7 +56,7 @@ pub number-few : (c : Choice) → number_of c ≤ 255
 number-few (Task c) = omega arith
 number-few Idle = omega arith
 
-module _ (n : ℕ) (rows : List ℕ) (h room : ℕ) (at : Search) (t a : List ℕ) (fits : Fits n rows h room at t a) where
+module _ (n : ℕ) (rows : List Timed) (h room : ℕ) (at : Search) (t a : List ℕ) (fits : Fits n rows h room at t a) where
   abbrev s : List model.Task
   s = row_tasks n rows
 

@@ -6,7 +6,7 @@ use mathlib.Core.List.{List, ◌∷◌}
 use Prim.Native.Nat.{ℕ, zero, suc, ◌+◌, ◌-◌, ◌^◌, ◌≤◌, ◌<◌}
 use native.Mathlib.Numerals.{add-one}
 use native.Mathlib.Omega.{arith}
-use borrow.Author.Tests.{eq-eqb, ne_eqb}
+use borrow.Author.Tests.{eq-eqb, ne_eqb, eqb-true, eqb-false}
 use lib.Dec.{eqb}
 use lib.ListN.{length, get_or, take, set}
 use lib.Seq.{length-take-le}
@@ -15,6 +15,7 @@ use Rattle.rules.specs.Tasks.{no_task}
 use Rattle.rules.specs.Positions.{idle, ended, next, legal}
 use Rattle.rules.proofs.Lists.{and_parts}
 use Rattle.std.specs.Prelude.{Option, Some, None}
+use Rattle.tasks.specs.declared.timed.Timed.{Timed}
 use Rattle.planner.specs.declared.search.Choice.{Choice}
 use Rattle.planner.specs.declared.search.Choice.TheVariants.{Task}
 use Rattle.planner.specs.declared.search.Search.{Search}
@@ -131,7 +132,7 @@ module _ (s : List model.Task) (n : ℕ) (count : length s ≡ n) (few : length 
 
 -- ── in the code's terms ─────────────────────────────────────────────────────
 
-module _ (n : ℕ) (rows : List ℕ) (at : Search) (choice : Choice) (table area : List ℕ) (R : Trying n rows at choice table area) (waits urgent : ℕ) (stay going : List ℕ)
+module _ (n : ℕ) (rows : List Timed) (at : Search) (choice : Choice) (table area : List ℕ) (R : Trying n rows at choice table area) (waits urgent : ℕ) (stay going : List ℕ)
     (A : Ahead (row_tasks n rows) at.slot (take n at.progress) waits urgent stay going) (r : Option ℕ)
     (F : First (leads_task n urgent (at.slot + 1) at.recorded going stay area) n (number_of choice) r) (whole : 8 ≡ length at.progress) (eight : 8 ≡ length stay)
     (on : List ℕ) (led : on ≡ led_to r going stay) where
@@ -181,18 +182,18 @@ module _ (n : ℕ) (rows : List ℕ) (at : Search) (choice : Choice) (table area
     seen-is : (q b : Bool) → q ≡ among (n + 1) area ((at.slot + 1) ∷ take n on) at.recorded → q ≡ b → among (suc n) area (suc at.slot ∷ take n stay) at.recorded ≡ b
     seen-is q b e g = rw (add-one n, add-one at.slot, on-is) at (sym e) ∙ g
 
-    pub adds-idle : (q : Bool) (mark : ℕ) → urgent ≡ 256 → q ≡ among (n + 1) area ((at.slot + 1) ∷ take n on) at.recorded → q ≡ false → mark ≡ waits
+    pub adds-idle : (q : Bool) (mark : ℕ) (free : Bool) → free ≡ eqb urgent 256 → free ≡ true → q ≡ among (n + 1) area ((at.slot + 1) ∷ take n on) at.recorded → q ≡ false → mark ≡ waits
         → Tries (row_tasks n rows) (machine_of n at table area) (machine_of n (record { slot = at.slot + 1; progress = on; choice = Some (Task 0); recorded = at.recorded }) (set table at.slot mark) area)
     unfolding machine_of
-    adds-idle q mark u e g i =
-        rw (R.tries, add-one at.slot, on-is, i) (add-idle (row_tasks n rows) n count few start long waits urgent stay going (sym eight) A (first-is None no) R.choices u (seen-is q false e g))
+    adds-idle q mark free u w e g i =
+        rw (R.tries, add-one at.slot, on-is, i) (add-idle (row_tasks n rows) n count few start long waits urgent stay going (sym eight) A (first-is None no) R.choices (eqb-true urgent 256 (sym u ∙ w)) (seen-is q false e g))
 
     pub spent_seen : (q : Bool) → q ≡ among (n + 1) area ((at.slot + 1) ∷ take n on) at.recorded → q ≡ true
         → Tries (row_tasks n rows) (machine_of n at table area) (machine_of n (record { slot = at.slot; progress = at.progress; choice = None; recorded = at.recorded }) table area)
     unfolding machine_of
     spent_seen q e g = rw R.tries (idle-seen (row_tasks n rows) n count few start long waits urgent stay going (sym eight) A (first-is None no) R.choices (seen-is q true e g))
 
-    pub spent-urgent : (urgent ≡ 256 → ⊥)
+    pub spent-urgent : (free : Bool) → free ≡ eqb urgent 256 → free ≡ false
         → Tries (row_tasks n rows) (machine_of n at table area) (machine_of n (record { slot = at.slot; progress = at.progress; choice = None; recorded = at.recorded }) table area)
     unfolding machine_of
-    spent-urgent e = rw R.tries (idle-not (row_tasks n rows) n count few start long waits urgent stay going (sym eight) A (first-is None no) R.choices e)
+    spent-urgent free u w = rw R.tries (idle-not (row_tasks n rows) n count few start long waits urgent stay going (sym eight) A (first-is None no) R.choices (eqb-false urgent 256 (sym u ∙ w)))

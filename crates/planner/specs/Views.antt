@@ -1,11 +1,12 @@
 -- What the planner's structs and enums stand for in the rules and in the search.
-use Rattle.std.specs.Prelude.{◌≡◌, true, cond, ◌⊎◌, List, ℕ, suc, ◌*◌, ◌≤◌, ◌<◌, min, length, get_or, take, Option, Some, None, Result, Ok, Err}
+use Rattle.std.specs.Prelude.{◌≡◌, true, cond, ◌⊎◌, List, ℕ, suc, ◌*◌, ◌≤◌, ◌<◌, min, length, take, Option, Some, None, Result, Ok, Err}
 use Rattle.rules.specs.Lists.{is_zero}
 use Rattle.rules.specs.Tasks as model_task
-use Rattle.rules.specs.Tasks.{no_task}
+use Rattle.rules.specs.Tasks.{Fit}
 use Rattle.rules.specs.Hyper.{hyper}
 use Rattle.rules.specs.Positions.{live_position, start}
 use Rattle.rules.specs.Planner as model
+use Rattle.tasks.specs.declared.timed.Timed.{Timed}
 use Rattle.planner.specs.Rows.{row_tasks, Laid}
 use Rattle.planner.specs.Machine as machine
 use Rattle.planner.specs.Machine.{Machine, giving, emptied, backed, Took, Reaches}
@@ -72,7 +73,7 @@ pub record Stepping (s : List model_task.Task) (K : ℕ) (m : Machine) (n : ℕ)
   pub given : Gives n did table area reached
 
 -- a choice to try, a slot of the table for its mark, and an area that holds the records
-pub record Trying (n : ℕ) (rows : List ℕ) (at : Search) (choice : Choice) (table area : List ℕ) : Type 0 where
+pub record Trying (n : ℕ) (rows : List Timed) (at : Search) (choice : Choice) (table area : List ℕ) : Type 0 where
   pub laid : Laid n rows
   pub slots : at.slot < length table
   pub few : at.slot < 4096
@@ -81,13 +82,13 @@ pub record Trying (n : ℕ) (rows : List ℕ) (at : Search) (choice : Choice) (t
   pub records : at.recorded * suc n ≤ length area
 
 -- room for one more record, and the marks of the slots passed
-pub record Recording (n : ℕ) (rows : List ℕ) (at : Search) (table area : List ℕ) : Type 0 where
+pub record Recording (n : ℕ) (rows : List Timed) (at : Search) (table area : List ℕ) : Type 0 where
   pub laid : Laid n rows
   pub slots : at.slot ≤ length table
   pub more : suc at.recorded * suc n ≤ length area
 
 -- what every step keeps: the numbers fit the buffers
-pub record Fits (n : ℕ) (rows : List ℕ) (h room : ℕ) (at : Search) (table area : List ℕ) : Type 0 where
+pub record Fits (n : ℕ) (rows : List Timed) (h room : ℕ) (at : Search) (table area : List ℕ) : Type 0 where
   pub laid : Laid n rows
   pub period : h ≡ hyper (row_tasks n rows)
   pub few : h ≤ 4096
@@ -98,10 +99,10 @@ pub record Fits (n : ℕ) (rows : List ℕ) (h room : ℕ) (at : Search) (table 
   pub holds : room * suc n ≤ length area
 
 -- what a run begins with: rows of tasks, a live start, a table that is long enough, and the room of the area
-pub record Opening (n : ℕ) (rows : List ℕ) (h room : ℕ) (table area : List ℕ) : Type 0 where
+pub record Opening (n : ℕ) (rows : List Timed) (h room : ℕ) (table area : List ℕ) : Type 0 where
   pub laid : Laid n rows
   pub some : 0 < n
-  pub due : (j : ℕ) → j < n → 0 < (get_or (row_tasks n rows) j no_task).deadline
+  pub fit : Fit (row_tasks n rows)
   pub period : h ≡ hyper (row_tasks n rows)
   pub few : h ≤ 4096
   pub long : h ≤ length table

@@ -71,8 +71,7 @@ pub fn plan(set: &TaskSet, table: &mut [u8], area: &mut [u16]) -> Result<Answer,
     }
     let n = tasks_in(*set);
     let room = area.len() / (n + 1);
-    let mut rows = [0; 128];
-    lay_out(*set, &mut rows);
+    let rows = lay_out(set);
     let answer = run(&rows, n, h, room, table, area);
     match answer.word {
         Word::Schedule => spell(&rows, n, table, h),

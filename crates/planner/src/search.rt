@@ -1,15 +1,16 @@
 // The search for the first schedule: a step adds the first choice that leads on or finds none, or records one dead position and takes back one
 // choice of the list under trial.
-ghost use Rattle.std.specs.Prelude.{◌≡◌, suc, ◌*◌, ◌≤◌, length};
+ghost use Rattle.std.specs.Prelude.{◌≡◌, suc, ◌*◌, ◌≤◌, length, map};
 ghost use Rattle.planner.specs.Rows.{row_tasks};
-ghost use Rattle.planner.specs.Ahead.{leads_task, First, led_to};
+ghost use Rattle.planner.specs.Ahead.{one_more, urgent_of, leads_task, First, led_to};
 ghost use Rattle.planner.specs.Machine.{following, opened, Tries};
 ghost use Rattle.planner.specs.Views.{number_of, number_in, machine_of, shut, Trying, Recording, Fits, Opening, Gives, Stepping, end_of, Ran};
 
-use crate::ahead::{bit_of, leads, look_ahead};
+use crate::ahead::{Urgent, bit_of, look_ahead};
 use crate::area::{put, seen};
 use crate::mark::{choice_from, take_back};
 use crate::{Answer, Word};
+use tasks::timed::Timed;
 
 // A choice to try in a slot: a task, by its number less 1, or idle.
 #[derive(Clone, Copy, Debug, PartialEq, Eq)]
@@ -51,29 +52,31 @@ fn choice_behind(n: usize, choice: u8) -> Option<Choice>
 fn first_task(
     n: usize,
     choice: Choice,
-    urgent: u16,
+    urgent: Urgent,
     slot: u16,
     recorded: usize,
-    go: &[u16; 8],
+    go: &[Option<u16>; 8],
     stay: &mut [u16; 8],
     area: &[u16],
 ) -> Option<usize>
     requires n_bound { n ≤ 8 }
     requires n_in_bounds { recorded * suc n ≤ length area.now }
-    ensures first { First (leads_task n urgent slot recorded go.now stay.old area.now) n (number_of choice) result }
-    ensures reached { stay.new ≡ led_to result go.now stay.old }
+    ensures first { First (leads_task n (urgent_of urgent) slot recorded (map one_more go.now) stay.old area.now) n (number_of choice) result }
+    ensures reached { stay.new ≡ led_to result (map one_more go.now) stay.old }
 {
     let Choice::Task(from) = choice else {
         return None;
     };
     for i in from as usize..n {
-        if leads(urgent, go[i], i as u16) {
-            let unchosen = stay[i];
-            stay[i] = go[i] - 1;
-            if !seen(area, recorded, n, slot, stay) {
-                return Some(i);
+        if let Some(to) = go[i] {
+            if urgent.allows(i as u8) {
+                let unchosen = stay[i];
+                stay[i] = to;
+                if !seen(area, recorded, n, slot, stay) {
+                    return Some(i);
+                }
+                stay[i] = unchosen;
             }
-            stay[i] = unchosen;
         }
     }
     None
@@ -81,7 +84,7 @@ fn first_task(
 
 // The first choice that leads to a live position which is not recorded is added to the list; where there is none, all are tried.
 fn lead_on(
-    rows: &[u16],
+    rows: &[Timed; 8],
     n: usize,
     at: Search,
     choice: Choice,
@@ -94,9 +97,9 @@ fn lead_on(
     let slot = at.slot;
     let progress = at.progress;
     let recorded = at.recorded;
-    let mut stay = [0u16; 8];
-    let mut go = [0u16; 8];
-    let ahead = look_ahead(rows, n, slot, &progress, &mut stay, &mut go);
+    let ahead = look_ahead(rows, n, slot, &progress);
+    let go = ahead.go;
+    let mut stay = ahead.stay;
     let task = first_task(
         n,
         choice,
@@ -109,7 +112,7 @@ fn lead_on(
     );
     let mark = match task {
         Some(c) => ahead.waits + bit_of(c),
-        None if ahead.urgent == 256 && !seen(area, recorded, n, slot + 1, &stay) => ahead.waits,
+        None if ahead.urgent.is_nobody() && !seen(area, recorded, n, slot + 1, &stay) => ahead.waits,
         None => return Search { choice: None, ..at },
     };
     table[slot as usize] = mark;
@@ -123,7 +126,7 @@ fn lead_on(
 
 #[tactic(auto, using(crate::proofs::Backs::back_laws))]
 // With no choice left to try the position is dead: it is recorded, and the last choice taken back.
-fn record_dead(rows: &[u16], n: usize, at: Search, table: &[u8], area: &mut [u16]) -> Stepped
+fn record_dead(rows: &[Timed; 8], n: usize, at: Search, table: &[u8], area: &mut [u16]) -> Stepped
     requires { Recording n rows.now at table.now area.old }
     ensures { Gives n result table.now area.new (shut (row_tasks n rows.now) (machine_of n at table.now area.old)) }
 {
@@ -152,7 +155,7 @@ fn record_dead(rows: &[u16], n: usize, at: Search, table: &[u8], area: &mut [u16
 #[tactic(auto, using(crate::proofs::Steps::step_laws))]
 // One step of the search, of a hyper-period of h slots, in an area with room for so many records.
 fn step(
-    rows: &[u16],
+    rows: &[Timed; 8],
     n: usize,
     h: u16,
     room: usize,
@@ -181,7 +184,7 @@ fn step(
 
 // The search from its start to its end.
 pub(crate) fn run(
-    rows: &[u16],
+    rows: &[Timed; 8],
     n: usize,
     h: u16,
     room: usize,

@@ -20,20 +20,20 @@ overflow_add-room c = let n = few-more _ _ c.tasks_in-n.ensures in omega arith
 
 pub run-answer-requires : goal.run-answer-requires
 run-answer-requires c =
-    opens _ _ _ _ c.in_ok-h.ensures.0 c.in_ok-h.ensures.1 c.if-table-slots.false _ c.live.ensures (ap not c.if-not-live.false) _ c.tasks_in-n.ensures _ (search rules) c.lay_out.ensures
+    opens _ _ _ _ c.in_ok-h.ensures.0 c.in_ok-h.ensures.1 c.if-table-slots.false _ c.live.ensures (ap not c.if-not-live.false) _ c.tasks_in-n.ensures _ (search rules) c.lay_out-rows.ensures
 
 pub spell-requires-clause-laid : goal.spell-requires-clause-laid
 spell-requires-clause-laid c =
-    (may-spell _ _ _ _ c.in_ok-h.ensures.0 c.in_ok-h.ensures.1 c.if-table-slots.false _ c.live.ensures (ap not c.if-not-live.false) _ c.tasks_in-n.ensures _ (search rules) c.lay_out.ensures _ _ _ c.run-answer.ensures c.in-Schedule.is).0
+    (may-spell _ _ _ _ c.in_ok-h.ensures.0 c.in_ok-h.ensures.1 c.if-table-slots.false _ c.live.ensures (ap not c.if-not-live.false) _ c.tasks_in-n.ensures _ (search rules) c.lay_out-rows.ensures _ _ _ c.run-answer.ensures c.in-Schedule.is).0
 
 pub spell-requires-clause-listed : goal.spell-requires-clause-listed
 spell-requires-clause-listed c =
-    (may-spell _ _ _ _ c.in_ok-h.ensures.0 c.in_ok-h.ensures.1 c.if-table-slots.false _ c.live.ensures (ap not c.if-not-live.false) _ c.tasks_in-n.ensures _ (search rules) c.lay_out.ensures _ _ _ c.run-answer.ensures c.in-Schedule.is).1.1
+    (may-spell _ _ _ _ c.in_ok-h.ensures.0 c.in_ok-h.ensures.1 c.if-table-slots.false _ c.live.ensures (ap not c.if-not-live.false) _ c.tasks_in-n.ensures _ (search rules) c.lay_out-rows.ensures _ _ _ c.run-answer.ensures c.in-Schedule.is).1.1
 
 pub returns-in-Schedule : goal.returns-in-Schedule
 returns-in-Schedule c =
-    first_found _ _ _ _ c.in_ok-h.ensures.0 c.in_ok-h.ensures.1 c.if-table-slots.false _ c.live.ensures (ap not c.if-not-live.false) _ c.tasks_in-n.ensures _ (search rules) c.lay_out.ensures _ _ _ c.run-answer.ensures _ c.in-Schedule.is c.spell.ensures
+    first_found _ _ _ _ c.in_ok-h.ensures.0 c.in_ok-h.ensures.1 c.if-table-slots.false _ c.live.ensures (ap not c.if-not-live.false) _ c.tasks_in-n.ensures _ (search rules) c.lay_out-rows.ensures _ _ _ c.run-answer.ensures _ c.in-Schedule.is c.spell.ensures
 
 pub returns-in-Infeasible : goal.returns-in-Infeasible
 returns-in-Infeasible c =
-    none_found _ _ _ _ c.in_ok-h.ensures.0 c.in_ok-h.ensures.1 c.if-table-slots.false _ c.live.ensures (ap not c.if-not-live.false) _ c.tasks_in-n.ensures _ (search rules) c.lay_out.ensures _ _ _ c.run-answer.ensures _ c.in-Infeasible.is c.fill-in-Infeasible.ensures
+    none_found _ _ _ _ c.in_ok-h.ensures.0 c.in_ok-h.ensures.1 c.if-table-slots.false _ c.live.ensures (ap not c.if-not-live.false) _ c.tasks_in-n.ensures _ (search rules) c.lay_out-rows.ensures _ _ _ c.run-answer.ensures _ c.in-Infeasible.is c.fill-in-Infeasible.ensures

@@ -2,7 +2,7 @@
 use borrow.Author.Rules.{rules}
 use Rattle.planner.proofs.Trials.{mark-fits, adds-task, adds-idle, spent_seen, spent-urgent}
 use Rattle.planner.proofs.search.lead_on.Goals as goal
-use Rattle.planner.proofs.search.lead_on.Goals.{in-Some, in-None, then-ahead-eq256+else-not-seen, else-ahead-eq256}
+use Rattle.planner.proofs.search.lead_on.Goals.{in-Some, in-None, then-is_nobody+else-not-seen, else-is_nobody}
 
 pub overflow_add-mark : goal.overflow_add-mark
 overflow_add-mark c =
@@ -14,9 +14,9 @@ overflow_add-mark c =
 pub returns-in-None-2 : goal.returns-in-None-2
 returns-in-None-2 c =
     let f = c.first_task-task.ensures in
-    elim c.if-ahead-eq256.branch [
-      | then-ahead-eq256+else-not-seen w ↦ spent_seen _ _ _ _ _ _ c.requires _ _ _ _ c.look_ahead-ahead.ensures _ f.first (search rules) (search rules) _ f.reached c.in-None.is _ w.seen.ensures (search rules)
-      | else-ahead-eq256 w ↦ spent-urgent _ _ _ _ _ _ c.requires _ _ _ _ c.look_ahead-ahead.ensures _ f.first (search rules) (search rules) _ f.reached c.in-None.is w.if-ahead-eq256.false
+    elim c.if-is_nobody.branch [
+      | then-is_nobody+else-not-seen w ↦ spent_seen _ _ _ _ _ _ c.requires _ _ _ _ c.look_ahead-ahead.ensures _ f.first (search rules) (search rules) _ f.reached c.in-None.is _ w.seen.ensures (search rules)
+      | else-is_nobody w ↦ spent-urgent _ _ _ _ _ _ c.requires _ _ _ _ c.look_ahead-ahead.ensures _ f.first (search rules) (search rules) _ f.reached c.in-None.is _ c.is_nobody.ensures w.if-is_nobody.false
     ]
 
 pub returns : goal.returns
@@ -24,5 +24,5 @@ returns c =
     let f = c.first_task-task.ensures in
     elim c.match-task.branch [
       | in-Some w ↦ adds-task _ _ _ _ _ _ c.requires _ _ _ _ c.look_ahead-ahead.ensures _ f.first (search rules) (search rules) _ f.reached _ w.in-Some.is _ _ w.bit_of.ensures w.mark-is
-      | in-None w ↦ adds-idle _ _ _ _ _ _ c.requires _ _ _ _ c.look_ahead-ahead.ensures _ f.first (search rules) (search rules) _ f.reached w.in-None.is _ _ w.if-ahead-eq256.true w.seen.ensures (search rules) w.mark-is
+      | in-None w ↦ adds-idle _ _ _ _ _ _ c.requires _ _ _ _ c.look_ahead-ahead.ensures _ f.first (search rules) (search rules) _ f.reached w.in-None.is _ _ _ w.is_nobody.ensures w.if-is_nobody.true w.seen.ensures (search rules) w.mark-is
     ]
