@@ -12,6 +12,5 @@ pub mod Backs
 pub mod Firsts
 pub mod Trials
 pub mod Repeats
-pub mod Admits
 pub mod Replies
 pub mod Promises

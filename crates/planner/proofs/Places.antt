@@ -13,7 +13,8 @@ use Rattle.tasks.specs.Timed.{timed_task}
 use Rattle.tasks.specs.Views.{no_entry, task_of, set_of}
 use Rattle.tasks.specs.declared.TaskSet.{TaskSet}
 use Rattle.tasks.proofs.Timing.{whole-is}
-use Rattle.tasks.proofs.Positions.{set-fits, task-at}
+use Rattle.tasks.proofs.Views.{set_at}
+use Rattle.tasks.proofs.Positions.{set-fits}
 use Rattle.planner.specs.Rows.{AreRows, task_at, row_tasks}
 
 pub rows-length : (n : ℕ) (rows : List Timed) → length (row_tasks n rows) ≡ n
@@ -46,7 +47,7 @@ rows-tasks s rows eight are =
     let l = rows-length n rows in
     let f = set-fits s in
     ext_get_or no_task (row_tasks n rows) (set_of s) l
-    (λ i h. row_at n rows i (omega arith) ∙ row_of s rows i are (omega arith) (omega arith) ∙ sym (task-at s i (omega arith)))
+    (λ i h. row_at n rows i (omega arith) ∙ row_of s rows i are (omega arith) (omega arith) ∙ sym (set_at s i (omega arith) (omega arith)))
 
 -- the first of the eight zeros that a search begins with
 pub take-replicate : (n k a : ℕ) → n ≤ k → take n (replicate k a) ≡ replicate n a

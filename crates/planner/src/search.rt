@@ -10,6 +10,7 @@ use crate::ahead::{Urgent, bit_of, look_ahead};
 use crate::area::{put, seen};
 use crate::mark::{choice_from, take_back};
 use crate::{Answer, Word};
+use tasks::IDLE;
 use tasks::timed::Timed;
 
 // A choice to try in a slot: a task, by its number less 1, or idle.
@@ -36,12 +37,12 @@ pub enum Stepped {
 }
 
 #[tactic(auto, using(crate::proofs::Steps::behind_laws))]
-// The choice to try behind that of a slot (255: idle): the tasks in their order, then idle, then none.
+// The choice to try behind that of a slot: the tasks in their order, then idle, then none.
 fn choice_behind(n: usize, choice: u8) -> Option<Choice>
     ensures { number_in result ≡ following n choice }
 {
     match choice {
-        255 => None,
+        IDLE => None,
         c if (c as usize) + 1 < n => Some(Choice::Task(c + 1)),
         _ => Some(Choice::Idle),
     }
@@ -95,10 +96,8 @@ fn lead_on(
     ensures { Tries (row_tasks n rows.now) (machine_of n at table.old area.now) (machine_of n result table.new area.now) }
 {
     let slot = at.slot;
-    let progress = at.progress;
     let recorded = at.recorded;
-    let ahead = look_ahead(rows, n, slot, &progress);
-    let go = ahead.go;
+    let ahead = look_ahead(rows, n, slot, &at.progress);
     let mut stay = ahead.stay;
     let task = first_task(
         n,
@@ -106,7 +105,7 @@ fn lead_on(
         ahead.urgent,
         slot + 1,
         recorded,
-        &go,
+        &ahead.go,
         &mut stay,
         area,
     );

@@ -143,7 +143,7 @@ onward-is t τ p = rw (starts-full t τ) refl
 
 module _ (t : Timed) (p : ℕ) (k : stands.Standing) (e : standing_of k ≡ standing (timed_task t) p) where
   undone-fits : is_done (standing (timed_task t) p) ≡ false → Fits w16 (p + 1)
-  undone-fits d = let b = undone-below (timed_task t) p d in let l = whole-is t 0 p in let s = t.small in omega arith
+  undone-fits d = let b = undone-below (timed_task t) p d in let l = whole-is t in let s = t.small in omega arith
 
   pub ready-fits : k ≡ Ready → Fits w16 (p + 1)
   unfolding standing_of is_done
