@@ -59,16 +59,16 @@ pub ruleset no_period = (no-period)
 
 -- ── in time ─────────────────────────────────────────────────────────────────
 
-module _ (t : Timed) (since p : ℕ) where
-  whole-is : t.length ≡ span (timed_task t)
-  unfolding timed_task span
-  whole-is = t.whole
+pub whole-is : (t : Timed) → t.length ≡ span (timed_task t)
+unfolding timed_task span
+whole-is t = t.whole
 
+module _ (t : Timed) (since p : ℕ) where
   pub timed-done : t.length ≤ p → leb t.length p ≡ in_time since (timed_task t) p
-  timed-done h = le-leb t.length p h ∙ in-time-done (timed_task t) t.length p whole-is since h
+  timed-done h = le-leb t.length p h ∙ in-time-done (timed_task t) t.length p (whole-is t) since h
 
   pub timed-left : p < t.length → (z : ℤ) → SFits w32 z → z ≡ laxity (timed_task t) since p → le_z (pos 0) (to_z w32 (of_z w32 z)) ≡ in_time since (timed_task t) p
-  timed-left h z f e = ap (le_z (pos 0)) (to_z-of_z {w = w32} f ∙ e) ∙ in-time-left (timed_task t) t.length p whole-is since h
+  timed-left h z f e = ap (le_z (pos 0)) (to_z-of_z {w = w32} f ∙ e) ∙ in-time-left (timed_task t) t.length p (whole-is t) since h
 
 pub ruleset in_times = (timed-done, timed-left)
 
@@ -103,14 +103,14 @@ module _ (t : Timed) (since p : ℕ) (w : Bool) (timely : w ≡ in_time since (t
   unfolding well_at
   well-undone h q e f l =
       let k = eq-eqb since (timed_task t).period (f ∙ e ∙ sym (period-is t)) in
-      rw (← timely, not-false w h, k, undone-till (timed_task t) t.length p (whole-is t since p) l) (lt-leb t.length p l)
+      rw (← timely, not-false w h, k, undone-till (timed_task t) t.length p (whole-is t) l) (lt-leb t.length p l)
 
   -- it was done
   pub well-again : not w ≡ false → (q : ℕ) → q ≡ t.period → since ≡ q → t.length ≤ p → (r : Bool) → r ≡ in_time 0 (timed_task t) 0 → r ≡ well_at since (timed_task t) p
   unfolding well_at
   well-again h q e f l r k =
       let m = eq-eqb since (timed_task t).period (f ∙ e ∙ sym (period-is t)) in
-      rw (← timely, not-false w h, m, done-from (timed_task t) t.length p (whole-is t since p) l) k
+      rw (← timely, not-false w h, m, done-from (timed_task t) t.length p (whole-is t) l) k
 
 pub ruleset wells = (well-late, well-on, well-undone, well-again)
 
@@ -143,7 +143,7 @@ onward-is t τ p = rw (starts-full t τ) refl
 
 module _ (t : Timed) (p : ℕ) (k : stands.Standing) (e : standing_of k ≡ standing (timed_task t) p) where
   undone-fits : is_done (standing (timed_task t) p) ≡ false → Fits w16 (p + 1)
-  undone-fits d = let b = undone-below (timed_task t) p d in let l = whole-is t 0 p in let s = t.small in omega arith
+  undone-fits d = let b = undone-below (timed_task t) p d in let l = whole-is t in let s = t.small in omega arith
 
   pub ready-fits : k ≡ Ready → Fits w16 (p + 1)
   unfolding standing_of is_done
