@@ -1,13 +1,14 @@
 -- Laws of the functions that read and write the strings, in the code's terms.
 use mathlib.Core.Path.{◌≡◌, refl, sym, ap, ◌∙◌}
 use mathlib.Core.Bool.{Bool, false, cond}
-use mathlib.Core.List.{List, [], ◌∷◌, ◌++◌}
+use mathlib.Core.List.{List, [], ◌∷◌, ◌++◌, append_assoc, append-nil}
 use Prim.Native.Nat.{ℕ, zero, suc, ◌+◌, ◌*◌, ◌≤◌, ◌/◌, ◌%◌, ◌<◌}
 use native.Mathlib.Numerals.{add-one, add-two}
 use native.Mathlib.Omega.{arith}
 use lib.Dec.{leb}
-use lib.ListN.{length, get_or, set, drop, length-append, length-drop, length-set}
-use lib.Seq.{sets, length-sets}
+use lib.ListN.{length, get_or, set, take, drop, drop_of_length-le, length-set}
+use lib.Seq.{sets, sets-eq, length-sets, drop-drop}
+use Rattle.std.specs.Prelude.{Option, Some, None, unwrap_or}
 use borrow.Author.Tests.{ne_eqb, le-leb, lt-leb}
 use Rattle.rules.specs.Lists.{tabulate}
 use Rattle.rules.specs.Records.{TaskRecord}
@@ -21,7 +22,7 @@ use Rattle.player.specs.declared.Stand.{Stand}
 use Rattle.player.specs.declared.Job.{Job}
 use Rattle.player.specs.declared.State.{State}
 use Rattle.player.proofs.Views.{eight-length, jobs-length}
-use Rattle.player.specs.Views.{stand_of, job_of, no_job, eight, jobs_of, state_of}
+use Rattle.player.specs.Views.{stand_of, job_of, no_job, eight, jobs_of, runner_number, state_of}
 use Rattle.player.specs.Bytes.{state_size, low, high, pair, joined, task_bytes, set_bytes, stand_byte, job_bytes, state_bytes, pair_at, task_at, set_at, stand_of_byte, job_at, state_at, readable}
 use Rattle.player.proofs.Sizes.{pair_size, task-size, set-size, after_jobs, after_planned, after_slot, after_set, parts, planned-size, jobs-size, state-size}
 use Rattle.player.proofs.Places.{tabulate-same, joined-single, sets-next, sets-all}
@@ -76,10 +77,12 @@ module _ (bs : List ℕ) where
   unfolding jobs_of state_at
   jobs-read js e = e
 
-  pub state-read : (s : TaskSet) (slot : ℕ) (ps : List ℕ) (js : List Job) → record_of s ≡ set_at bs → slot ≡ pair_at bs 97 → eight ps ≡ (state_at bs).planned → jobs_of js ≡ (state_at bs).jobs
-      → state_of (record { set = s; slot = slot; planned = ps; jobs = js; last = get_or bs 139 0 }) ≡ state_at bs
-  unfolding state_of state_at
-  state-read s slot ps js e f g h = rw (e, f, g, h)
+  pub state-read : (s : TaskSet) (slot : ℕ) (ps : List ℕ) (js : List Job) (last : Option ℕ) → record_of s ≡ set_at bs → slot ≡ get_or bs 97 0 + get_or bs 98 0 * 256 → eight ps ≡ (state_at bs).planned → jobs_of js ≡ (state_at bs).jobs
+      → runner_number last ≡ get_or bs 139 0 → state_of (record { set = s; slot = slot; planned = ps; jobs = js; last = last }) ≡ state_at bs
+  unfolding state_of state_at pair_at
+  state-read s slot ps js last e f g h l =
+      let low : slot ≡ get_or bs 97 0 + 256 * get_or bs 98 0 = omega arith in
+      rw (e, low, g, h, l)
 
   pub short : (length bs ≡ 140 → ⊥) → false ≡ readable bs
   unfolding readable state_size
@@ -157,21 +160,20 @@ unfolding state_of
 struct-arrays st = record { in_set = arrays st.set; plans = eight-length st.planned; standings = jobs-length st.jobs }
 
 -- one part behind the other
-pub stored : (o a b c d : List ℕ) (w : StateRecord) → StateArrays w → 140 ≤ length o → a ≡ set_bytes w.set ++ drop 97 o → b ≡ sets a 97 (pair w.slot)
-    → c ≡ sets b 99 (joined pair w.planned) → d ≡ sets c 115 (joined job_bytes w.jobs) → set d 139 w.last ≡ sets o 0 (state_bytes w)
+pub stored : (o a b c d : List ℕ) (w : StateRecord) → StateArrays w → length o ≡ 140 → a ≡ sets o 0 (set_bytes w.set) → b ≡ sets a 97 (pair w.slot)
+    → c ≡ sets b 99 (joined pair w.planned) → d ≡ sets c 115 (joined job_bytes w.jobs) → set d 139 w.last ≡ state_bytes w
 stored o a b c d w A h p q r s =
-    let first : a ≡ sets o 0 (set_bytes w.set) = p ∙ sym (sets-all o (set_bytes w.set) 97 (set-size w.set A.in_set) (omega arith)) in
     let e1 = sets-next o 0 97 (set_bytes w.set) (after_set w) (set-size w.set A.in_set) in
     let e2 = sets-next (sets o 0 (set_bytes w.set)) 97 2 (pair w.slot) (after_slot w) (pair_size w.slot) in
     let e3 = sets-next (sets (sets o 0 (set_bytes w.set)) 97 (pair w.slot)) 99 16 (joined pair w.planned) (after_planned w) (planned-size w A) in
     let e4 = sets-next (sets (sets (sets o 0 (set_bytes w.set)) 97 (pair w.slot)) 99 (joined pair w.planned)) 115 24 (joined job_bytes w.jobs) (after_jobs w) (jobs-size w A) in
-    rw (s, r, q, first) (sym (ap (λ l. sets o 0 l) (parts w) ∙ e1 ∙ e2 ∙ e3 ∙ e4))
+    rw (s, r, q, p)
+    (sym (ap (λ l. sets o 0 l) (parts w) ∙ e1 ∙ e2 ∙ e3 ∙ e4) ∙ sets-all o (state_bytes w) 140 (state-size w A) (omega arith) ∙ ap (λ l. state_bytes w ++ l) (drop_of_length-le o {i = 140} (omega arith)) ∙ append-nil (state_bytes w))
 
-module _ (st : State) (o : List ℕ) (h : 140 ≤ length o) where
-  pub state-put : (a b c d : List ℕ) → a ≡ set_bytes (record_of st.set) ++ drop 97 o → b ≡ sets a 97 (pair st.slot) → c ≡ sets b 99 (joined pair (eight st.planned))
-      → d ≡ sets c 115 (joined job_bytes (jobs_of st.jobs)) → set d 139 st.last ≡ state_bytes (state_of st) ++ drop 140 o
-  unfolding state_of
-  state-put a b c d p q r s = stored o a b c d (state_of st) (struct-arrays st) h p q r s ∙ sets-all o (state_bytes (state_of st)) 140 (state-size (state_of st) (struct-arrays st)) h
+-- a part put over what was there
+pub placed : (o xs : List ℕ) (at n : ℕ) → n ≡ length xs → at + length xs ≤ length o → take at o ++ (xs ++ drop n (drop at o)) ≡ sets o at xs
+placed o xs at n e h = rw (e, drop-drop (length xs) at o) (sym (sets-eq xs o at h ∙ append_assoc (take at o) xs (drop (at + length xs) o)))
 
-  pub state-kept : (out : List ℕ) → out ≡ state_bytes (state_of st) ++ drop 140 o → length out ≡ length o
-  state-kept out e = omega (arith, ap length e ∙ length-append (state_bytes (state_of st)) (drop 140 o), state-size (state_of st) (struct-arrays st), length-drop 140 o)
+pub last_byte : (last : Option ℕ) → unwrap_or last 255 ≡ runner_number last
+last_byte None = refl
+last_byte (Some i) = refl

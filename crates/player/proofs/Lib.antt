@@ -6,6 +6,8 @@ pub mod Starts
 pub mod Rounds
 pub mod Places
 pub mod Sizes
+pub mod Pieces
+pub mod Defaults
 pub mod Codes
 pub mod Inverse
 pub mod Carried
