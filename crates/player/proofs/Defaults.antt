@@ -21,6 +21,6 @@ pub task_default : (t : Task) → IsBlank t → entry_of t ≡ blank_task
 unfolding entry_of blank_task
 task_default t h = rw (h.0, h.1.0, h.1.1.0, tabulate-constant (λ k. get_or t.pattern k 0) 0 0 7 (λ k l. h.1.1.1.at k 0 l)) refl
 
-pub set_default : (s : TaskSet) → (s.count ≡ 0) × AllOfLen IsBlank s.tasks 8 → record_of s ≡ blank_set
+pub set_default : (s : TaskSet) → s.count ≡ 0 → AllOfLen IsBlank s.tasks 8 → record_of s ≡ blank_set
 unfolding record_of blank_set
-set_default s h = rw (h.0, tabulate-constant (λ k. entry_of (get_or s.tasks k no_entry)) blank_task 0 8 (λ k l. task_default (get_or s.tasks k no_entry) (h.1.at k no_entry l))) refl
+set_default s e h = rw (e, tabulate-constant (λ k. entry_of (get_or s.tasks k no_entry)) blank_task 0 8 (λ k l. task_default (get_or s.tasks k no_entry) (h.at k no_entry l))) refl

@@ -6,10 +6,10 @@ pub mod Starts
 pub mod Rounds
 pub mod Places
 pub mod Sizes
-pub mod Pieces
-pub mod Defaults
 pub mod Codes
 pub mod Inverse
+pub mod Pieces
+pub mod Defaults
 pub mod Carried
 pub mod Calls
 pub mod Rows

@@ -4,17 +4,16 @@ use Rattle.std.proofs.lemmas.List.{get_or-drop, get_or-take}
 use Rattle.std.specs.Prelude.{Option, None, IsSome}
 use Rattle.std.specs.Simd.{first_chunks}
 use Rattle.std.specs.List.{flat_map}
-use mathlib.Core.Logic.{◌⊎◌, inl, inr}
-use mathlib.Core.Bool.{Bool, ◌&&◌, and-false}
-use lib.Dec.{eqb, leb}
-use borrow.Author.Tests.{eq-eqb, le-leb, lt-leb}
+use mathlib.Core.Bool.{Bool, cond}
+use lib.Dec.{leb}
+use borrow.Author.Tests.{eq-eqb, le-leb}
 use lib.Seq.{ext_get_or}
 use Rattle.rules.specs.Lists.{tabulate, all_of}
 use Rattle.rules.specs.Records.{TaskRecord}
 use Rattle.rules.specs.Jobs.{Job}
-use Rattle.rules.proofs.Laws.{le-or-lt}
 use Rattle.rules.proofs.Lists.{clash-bool, tabulate-length, tabulate-at}
 use Rattle.player.specs.Bytes.{low, high, pair, joined, pair_at, task_at, set_at, job_at, state_size, readable}
+use Rattle.player.proofs.Inverse.{stand-fits}
 use Rattle.player.proofs.Places.{tabulate-same, Got}
 
 -- ── reading ─────────────────────────────────────────────────────────────────
@@ -89,41 +88,19 @@ module _ (bs : List ℕ) (a w m k : ℕ) (ps : List (List ℕ)) where
   pub stand_read : ps ≡ first_chunks 3 m (take w (drop a bs)) → k < length ps → k * 3 + 3 ≤ w → get_or (get_or ps k []) 0 0 ≡ get_or bs (a + k * 3) 0
   stand_read e h l = (piece 3 e h l).byte 0 (omega arith) ∙ ap (λ i. get_or bs i 0) (omega arith)
 
--- every standing is known, or one is not
+-- every standing is known
 all_below : (bs : List ℕ) (i n : ℕ) → ((k : ℕ) → k < i + n → get_or bs (115 + k * 3) 0 ≤ 5) → all_of (λ b. leb b 5) (tabulate (λ k. get_or bs (115 + k * 3) 0) i n) ≡ true
 unfolding all_of tabulate
 all_below bs i zero h = refl
 all_below bs i (suc n) h = rw (le-leb (get_or bs (115 + i * 3) 0) 5 (h i (omega arith)), all_below bs (suc i) n (λ k l. h k (omega arith)))
 
-one_above : (bs : List ℕ) (i n k : ℕ) → i ≤ k → k < i + n → 5 < get_or bs (115 + k * 3) 0 → all_of (λ b. leb b 5) (tabulate (λ k. get_or bs (115 + k * 3) 0) i n) ≡ false
-unfolding all_of tabulate
-one_above bs i zero k h l e = absurd (omega arith)
-one_above bs i (suc n) k h l e = go (le-or-lt k i) (λ q. one_above bs (suc i) n k q (omega arith) e)
-  where
-    rest : Bool
-    rest = all_of (λ b. leb b 5) (tabulate (λ k. get_or bs (115 + k * 3) 0) (suc i) n)
-
-    go : (k ≤ i) ⊎ (i < k) → (suc i ≤ k → rest ≡ false) → (leb (get_or bs (115 + i * 3) 0) 5 && rest) ≡ false
-    go (inl q) r = let here : k ≡ i = omega arith in rw (lt-leb (get_or bs (115 + i * 3) 0) 5 (rw here at e))
-    go (inr q) r = rw (r q) (and-false (leb (get_or bs (115 + i * 3) 0) 5))
-
 pub all_known : (bs : List ℕ) → length bs ≡ 140 → ((k : ℕ) → k < 8 → get_or bs (115 + k * 3) 0 ≤ 5) → readable bs ≡ true
 unfolding readable state_size
 all_known bs long h = rw (eq-eqb (length bs) 140 long) (all_below bs 0 8 h)
 
-pub one_unknown : (bs : List ℕ) (k : ℕ) → k < 8 → 5 < get_or bs (115 + k * 3) 0 → readable bs ≡ false
-unfolding readable state_size
-one_unknown bs k l e = rw (one_above bs 0 8 k (omega arith) l e) (and-false (eqb (length bs) 140))
-
-pub above_five : (n : ℕ) → (n ≤ 5 → ◌≡◌ {A = Bool} false true) → 5 < n
-above_five n h = go (le-or-lt n 5)
-  where
-    go : (n ≤ 5) ⊎ (5 < n) → 5 < n
-    go (inl l) = clash-bool (h l)
-    go (inr l) = l
-
-pub none_readable : {X : Type 0} (bs : List ℕ) (r : Option X) → r ≡ None → readable bs ≡ false → (IsSome r → readable bs ≡ true) × (readable bs ≡ true → IsSome r)
-none_readable bs r e f = rw e (λ z. clash-bool z, λ t. clash-bool (sym f ∙ t))
+-- a standing that is none: the string can't be read
+pub none_readable : {X : Type 0} (bs : List ℕ) (r : Option X) (k : ℕ) → r ≡ None → k < 8 → (get_or bs (115 + k * 3) 0 ≤ 5 → ◌≡◌ {A = Bool} false true) → (IsSome r → readable bs ≡ true) × (readable bs ≡ true → IsSome r)
+none_readable bs r k e l h = rw e (λ z. clash-bool z, λ t. h (stand-fits bs t k l))
 
 -- ── writing ─────────────────────────────────────────────────────────────────
 
@@ -153,3 +130,9 @@ module _ {A : Type 0} (f : A → List ℕ) where
       let long = s.long in
       ext_get_or [] l (tabulate (λ k. f (g k)) 0 m) (omega arith) (λ k n. s.done k (omega arith) ∙ sym (tabulate-at (λ k. f (g k)) 0 m k [] (omega arith) ∙ ap (λ k. f (g k)) (omega arith)))
       ∙ sym (map_tabulate g 0 m)
+
+-- a string that has room
+pub cond_room : (n m : ℕ) (xs ys : List ℕ) → n ≤ m → cond (leb n m) xs ys ≡ xs
+cond_room n m xs ys h = rw (le-leb n m h)
+
+pub ruleset piece_laws = (got_map, flat_pieces)

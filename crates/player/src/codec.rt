@@ -8,7 +8,7 @@ ghost use Rattle.player.specs.Standings.{StandIn};
 ghost use Rattle.player.specs.Bytes.{task_bytes, set_bytes, stand_byte, job_bytes, pair, state_bytes, task_at, set_at, job_at, state_at, readable};
 
 use crate::{Cause, Job, Stand, State};
-use tasks::{Refusal, Task, TaskSet};
+use tasks::{IDLE, Refusal, Task, TaskSet};
 
 // A number of 16 bits.
 const NUMBER_SIZE: usize = 2;
@@ -34,9 +34,6 @@ const JOBS: usize = PLANNED + 8 * NUMBER_SIZE;
 const LAST: usize = JOBS + 8 * JOB_SIZE;
 
 pub const STATE_SIZE: usize = LAST + 1;
-
-// Where nobody ran last.
-const NOBODY: u8 = 255;
 
 // ── standings and jobs ──────────────────────────────────────────────────────
 
@@ -80,7 +77,7 @@ impl TryFrom<u8> for Stand {
 impl Job {
     // The job that bytes hold, unless their standing is none.
     #[tactic(auto, unfolding(crate::specs::Views::job_of, crate::specs::Bytes::job_at))]
-    pub fn from_bytes(bytes: &[u8; JOB_SIZE]) -> Option<Self>
+    fn from_bytes(bytes: &[u8; JOB_SIZE]) -> Option<Self>
         ensures known { IsSome result ↔ (slice_index bytes.now 0 ≤ 5) }
         ensures value { IfSome result (λ job. job_of job ≡ job_at bytes.now 0) }
     {
@@ -91,7 +88,7 @@ impl Job {
 
     // The bytes that hold the job.
     #[tactic(auto, unfolding(crate::specs::Views::job_of, crate::specs::Bytes::job_bytes))]
-    pub fn to_bytes(&self) -> [u8; JOB_SIZE]
+    fn to_bytes(&self) -> [u8; JOB_SIZE]
         ensures { result ≡ job_bytes (job_of self.now) }
     {
         [self.stand.into(), self.step, self.given]
@@ -112,6 +109,7 @@ fn jobs_in(bytes: &[u8; STATE_SIZE]) -> Option<[Job; 8]>
 }
 
 // The bytes of each job.
+#[tactic(auto, using(crate::proofs::Pieces::piece_laws), unfolding(crate::specs::Views::jobs_of))]
 fn jobs_to_bytes(jobs: &[Job; 8]) -> [[u8; JOB_SIZE]; 8]
     ensures { result ≡ map job_bytes (jobs_of jobs.now) }
 {
@@ -137,6 +135,7 @@ fn planned_in(bytes: &[u8; STATE_SIZE]) -> [u16; 8]
 }
 
 // The bytes of each number.
+#[tactic(auto, using(crate::proofs::Pieces::piece_laws), unfolding(crate::specs::Views::eight, crate::specs::Bytes::pair, crate::specs::Bytes::low, crate::specs::Bytes::high))]
 fn planned_to_bytes(planned: &[u16; 8]) -> [[u8; NUMBER_SIZE]; 8]
     ensures { result ≡ map pair (eight planned.now) }
 {
@@ -197,12 +196,14 @@ pub fn set_to_bytes(set: &TaskSet) -> [u8; SET_SIZE]
     for i in 0..8 {
         held[i] = task_to_bytes(&set.tasks[i]);
     }
-    let mut out = [set.count; SET_SIZE];
+    let mut out = [0; SET_SIZE];
+    out[0] = set.count;
     out[TASKS..].copy_from_slice(held.as_flattened());
     out
 }
 
 // The task set at the start of a string; a blank one if the string is shorter than a set's.
+#[tactic(auto, using(crate::proofs::Defaults::set_default, crate::proofs::Pieces::set_start))]
 pub fn set_in(bytes: &[u8]) -> TaskSet
     ensures held { 97 ≤ length bytes.now → record_of result ≡ set_at bytes.now }
     ensures short { length bytes.now < 97 → record_of result ≡ blank_set }
@@ -214,6 +215,7 @@ pub fn set_in(bytes: &[u8]) -> TaskSet
 }
 
 // A task set, put at the start of a string; a string shorter than a set's is left as it is.
+#[tactic(auto, using(crate::proofs::Pieces::cond_room))]
 pub fn write_set(set: TaskSet, out: &mut [u8])
     ensures { out.new ≡ cond (leb 97 (length out.old)) (set_bytes (record_of set) ++ drop 97 out.old) out.old }
 {
@@ -228,7 +230,7 @@ pub fn write_set(set: TaskSet, out: &mut [u8])
 fn last_from(byte: u8) -> Option<u8>
     ensures { runner_number result ≡ byte }
 {
-    if byte == NOBODY { None } else { Some(byte) }
+    if byte == IDLE { None } else { Some(byte) }
 }
 
 // A part of a state's string, put at its place.
@@ -267,7 +269,7 @@ impl State {
             PLANNED,
         );
         put(jobs_to_bytes(&self.jobs).as_flattened(), &mut out, JOBS);
-        out[LAST] = self.last.unwrap_or(NOBODY);
+        out[LAST] = self.last.unwrap_or(IDLE);
         out
     }
 }
