@@ -8,6 +8,8 @@ pub mod Places
 pub mod Sizes
 pub mod Codes
 pub mod Inverse
+pub mod Pieces
+pub mod Defaults
 pub mod Carried
 pub mod Calls
 pub mod Rows
