@@ -21,7 +21,7 @@ pub struct TurnsTaken {
 
 impl State {
     // Task i + 1 ran last.
-    fn ran(&self, i: usize) -> bool
+    pub(crate) fn ran(&self, i: usize) -> bool
         requires { i < 255 }
         ensures { result ≡ eqb (runner_number self.now.last) i }
     {
