@@ -1,11 +1,8 @@
 pub mod Tests
 pub mod Lines
 pub mod Words
-pub mod Numbers
 pub mod Reader
 pub mod Pattern
 pub mod OneLine
-pub mod Sets
-pub mod ByLines
 pub mod Meaning
 pub mod Promises
