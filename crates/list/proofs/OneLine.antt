@@ -96,18 +96,18 @@ unfolding padded
 padded-seven us h = length-append us (replicate (7 - length us) 0) ∙ omega (arith, length-replicate {A = ℕ} (7 - length us) 0)
 
 -- a task with right steps and a unit outside its range
-refused-three : (r : TaskRecord) → 1 ≤ r.steps → r.steps ≤ 4 → all_between 1 255 (pattern_of r) ≡ false → 3 ≡ task_refusal r
+refused-three : (r : TaskRecord) → 1 ≤ r.steps → r.steps ≤ 4 → all_between 1 255 (pattern_of r) ≡ false → task_refusal r ≡ 3
 unfolding task_refusal between
 refused-three r a b e = rw (le-leb 1 r.steps a, le-leb r.steps 4 b, e, and-false, and-false)
 
 -- ── a line ──────────────────────────────────────────────────────────────────
 
 module _ (l : List ℕ) where
-  ill : well_formed l ≡ false → 2 ≡ line_refusal 0 l
+  ill : well_formed l ≡ false → line_refusal 0 l ≡ 2
   unfolding line_refusal
   ill h = rw h
 
-  pub refuse_words : None ≡ fields_of (words l) → 2 ≡ line_refusal 0 l
+  pub refuse_words : None ≡ fields_of (words l) → line_refusal 0 l ≡ 2
   unfolding fields_of well_formed
   refuse_words e = ill (go (all_of is_field (words l)) (leb (length (words l)) 9) refl refl)
     where
@@ -123,13 +123,13 @@ module _ (l : List ℕ) where
     many : length (words l) ≡ length ns
     many = sym (ap length ns-are ∙ length-map (words l) number)
 
-    pub refuse_count : right_count (length ns) ≡ false → 2 ≡ line_refusal 0 l
+    pub refuse_count : right_count (length ns) ≡ false → line_refusal 0 l ≡ 2
     unfolding well_formed
     refuse_count h = ill (rw (many, h, and-false))
 
     module _ (k : right_count (length ns) ≡ true) where
       -- a well-formed line is refused as its task is
-      by-task : task_refusal (line_task l) ≡ line_refusal 0 l
+      by-task : line_refusal 0 l ≡ task_refusal (line_task l)
       unfolding line_refusal well_formed
       by-task = rw ((held ns (words l) e).all, many, k)
 
@@ -142,11 +142,11 @@ module _ (l : List ℕ) where
       pattern-is = rw (← ns-are) (padded-take 7 0 (drop 2 ns) ((length ns - 1) / 2 + (length ns - 1) / 2 - 1) (length-drop 2 ns ∙ sym (right (length ns) k).odd))
 
       -- refusal 3 by a unit above 255
-      pub refuse_units : None ≡ units_of (drop 2 ns) → 3 ≡ line_refusal 0 l
+      pub refuse_units : None ≡ units_of (drop 2 ns) → line_refusal 0 l ≡ 3
       refuse_units h =
-          refused-three (line_task l) (rw steps-are (right (length ns) k).some) (rw steps-are (right (length ns) k).most)
+          by-task
+          ∙ refused-three (line_task l) (rw steps-are (right (length ns) k).some) (rw steps-are (right (length ns) k).most)
           (rw pattern-is (above (drop 2 ns) (units-none (drop 2 ns) h)))
-          ∙ by-task
 
       pub task_is : (p : List ℕ) → Some p ≡ units_of (drop 2 ns)
           → entry_of (record { period = get_or ns 0 0; deadline = get_or ns 1 0; steps = (length ns - 1) / 2; pattern = p }) ≡ line_task l
@@ -156,5 +156,5 @@ module _ (l : List ℕ) where
           let m : length p ≡ 7 = ap length q ∙ padded-seven (drop 2 ns) (omega (arith, length-drop 2 ns, (right (length ns) k).high)) in
           rw (tabulated p m, q, ← ns-are)
 
-      pub refuse_task : (r : ℕ) (t : TaskRecord) → r ≡ task_refusal t → t ≡ line_task l → r ≡ line_refusal 0 l
-      refuse_task r t h q = h ∙ ap task_refusal q ∙ by-task
+      pub refuse_task : (t : TaskRecord) → t ≡ line_task l → line_refusal 0 l ≡ task_refusal t
+      refuse_task t q = by-task ∙ ap task_refusal (sym q)

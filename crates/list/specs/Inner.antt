@@ -1,9 +1,7 @@
 -- What the reader's own functions give, for their contracts: the fields of words, the units of a pattern, and the tasks after a line.
-use Rattle.std.specs.Prelude.{true, cond, ◌&&◌, List, [], ◌∷◌, ◌++◌, map, ◌≡◌, ℕ, leb, nat_lt, length, take, Option, Some, None, Result, Ok, Err, if◌then◌else◌}
+use Rattle.std.specs.Prelude.{true, cond, ◌&&◌, List, [], ◌∷◌, ◌++◌, map, ◌≡◌, ℕ, leb, nat_lt, length, take, Option, Some, None, if◌then◌else◌}
 use Rattle.rules.specs.Lists.{all_of, padded}
 use Rattle.rules.specs.Records.{TaskRecord, all_between}
-use Rattle.tasks.specs.declared.refusal.Refusal.{Refusal}
-use Rattle.tasks.specs.Refusals.{number_of}
 use Rattle.list.specs.Reading.{is_field, number, skipped, line_task, line_refusal}
 use Rattle.list.specs.declared.numbers.Digits.{Digits}
 use Rattle.list.specs.declared.numbers.Numbers.{Numbers}
@@ -38,13 +36,6 @@ one_more ns n = if nat_lt (length ns) 9 then Some (ns ++ n ∷ []) else None
 -- the units as bytes, zeros behind them, if none is above 255
 unfoldable pub units_of : List ℕ → Option (List ℕ)
 units_of us = cond (all_between 0 255 us) (Some (padded 7 0 us)) None
-
--- ── a line ──────────────────────────────────────────────────────────────────
-
--- the number of a refusal, 0 where there is none
-abbrev pub refusal_in : {A : Type 0} → Result A Refusal → ℕ
-refusal_in (Ok a) = 0
-refusal_in (Err r) = number_of r
 
 -- ── a line after some tasks ─────────────────────────────────────────────────
 

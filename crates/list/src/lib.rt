@@ -1,15 +1,15 @@
 // The reader of task lists.
 #![tactic(auto)]
 
-ghost use Rattle.std.specs.Prelude.{List, [], ◌∷◌, ◌++◌, ◌≡◌, ◌<◌, IfErr, IfOk};
+ghost use Rattle.std.specs.Prelude.{List, [], ◌∷◌, ◌++◌, ◌≡◌, ◌<◌, IfErr, IfOk, Ok};
 ghost use Rattle.rules.specs.Records.{TaskRecord};
+ghost use Rattle.tasks.specs.Refusals.{number_of};
 ghost use Rattle.tasks.specs.Views.{entry_of, record_of};
-ghost use Rattle.list.specs.Reading.{reply_of, accepted, read_list, shown};
-ghost use Rattle.list.specs.Inner.{refusal_after, refusal_in, tasks_after};
+ghost use Rattle.list.specs.Reading.{reply_of, accepted, finish, read_list, refused_whole, shown};
+ghost use Rattle.list.specs.Inner.{refusal_after, tasks_after};
 
 use crate::line::line_task;
 use crate::text::{first_line, is_skipped};
-use tasks::set::hyper_period;
 use tasks::{Refusal, Task, TaskSet};
 
 mod fields;
@@ -27,12 +27,16 @@ pub struct Refused<'a> {
 }
 
 // A refusal for which no line is to blame.
-fn whole(why: Refusal) -> Refused<'static> {
-    Refused {
-        why,
-        line: 0,
-        start: 0,
-        text: &[],
+impl From<Refusal> for Refused<'_> {
+    ghost from_gives = { λ why e. (e.why ≡ why) × (e.line ≡ 0) × (e.start ≡ 0) × (e.text.now ≡ []) };
+
+    fn from(why: Refusal) -> Self {
+        Refused {
+            why,
+            line: 0,
+            start: 0,
+            text: &[],
+        }
     }
 }
 
@@ -49,8 +53,8 @@ fn with_task(set: TaskSet, task: Task) -> TaskSet
 
 // A line, after the set that has read `rs`. A ninth task is 5 whatever its line holds.
 fn after_line(set: TaskSet, line: &[u8]) -> Result<TaskSet, Refusal>
-    ensures refused { (rs : List TaskRecord) → record_of set ≡ (accepted rs).set → refusal_in result ≡ refusal_after rs line.now }
-    ensures good { (rs : List TaskRecord) → record_of set ≡ (accepted rs).set → IfOk result (λ more. record_of more ≡ (accepted (tasks_after rs line.now)).set) }
+    ensures good { (rs : List TaskRecord) → record_of set ≡ (accepted rs).set → IfOk result (λ more. (refusal_after rs line.now ≡ 0) × (record_of more ≡ (accepted (tasks_after rs line.now)).set)) }
+    ensures refused { (rs : List TaskRecord) → record_of set ≡ (accepted rs).set → IfErr result (λ refusal. refusal_after rs line.now ≡ number_of refusal) }
 {
     if is_skipped(line) {
         return Ok(set);
@@ -63,14 +67,15 @@ fn after_line(set: TaskSet, line: &[u8]) -> Result<TaskSet, Refusal>
 }
 
 // The end of a list, after the set that has read `rs`: 5 if there is no task, 6 by the hyper-period.
-fn finish<'a>(set: TaskSet) -> Result<TaskSet, Refused<'a>>
-    ensures { (rs : List TaskRecord) → record_of set ≡ (accepted rs).set → reply_of result ≡ Rattle.list.specs.Reading.finish rs }
+fn finish(set: TaskSet) -> Result<TaskSet, Refusal>
+    ensures good { (rs : List TaskRecord) → record_of set ≡ (accepted rs).set → IfOk result (λ more. finish rs ≡ reply_of (Ok more)) }
+    ensures refused { (rs : List TaskRecord) → record_of set ≡ (accepted rs).set → IfErr result (λ refusal. finish rs ≡ refused_whole (number_of refusal)) }
 {
     if set.count == 0 {
-        return Err(whole(Refusal::TaskCount));
+        return Err(Refusal::TaskCount);
     }
-    if 4096 < hyper_period(set) {
-        return Err(whole(Refusal::HyperTooLong));
+    if set.hyper_period().is_none() {
+        return Err(Refusal::HyperTooLong);
     }
     Ok(set)
 }
@@ -81,7 +86,7 @@ pub fn read(list: &[u8]) -> Result<TaskSet, Refused<'_>>
     ensures text { IfErr result (λ e. e.text.now ≡ shown list.now (read_list list.now)) }
 {
     if 4096 < list.len() {
-        return Err(whole(Refusal::ListTooLong));
+        return Err(Refusal::ListTooLong.into());
     }
     let mut set = TaskSet::default();
     let mut line = 1;
@@ -96,7 +101,7 @@ pub fn read(list: &[u8]) -> Result<TaskSet, Refused<'_>>
         line += 1;
         rest = behind;
     }
-    finish(set)
+    Ok(finish(set)?)
 }
 
 // The refused line as it stands in the list, without its line feed; an empty part at the list's start where no line is refused.

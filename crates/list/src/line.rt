@@ -1,13 +1,12 @@
 // A line's task, or the refusal that the line is given.
-ghost use Rattle.std.specs.Prelude.{◌≡◌, ◌≤◌, IfOk, length};
+ghost use Rattle.std.specs.Prelude.{◌≡◌, ◌≤◌, IfErr, IfOk, length};
 ghost use Rattle.std.specs.Bool.{OnTrue};
-ghost use Rattle.rules.specs.Records.{task_refusal};
+ghost use Rattle.tasks.specs.Refusals.{number_of};
 ghost use Rattle.tasks.specs.Views.{entry_of};
 ghost use Rattle.list.specs.Reading.{right_count, line_task, line_refusal};
-ghost use Rattle.list.specs.Inner.{refusal_in, units_of};
+ghost use Rattle.list.specs.Inner.{units_of};
 
 use crate::fields::line_fields;
-use tasks::set::task_refusal;
 use tasks::{Refusal, Task};
 
 // The number of fields of a task: T, D and the steps with the waits between them.
@@ -33,8 +32,8 @@ fn pattern_of(units: &[u16]) -> Option<[u8; 7]>
 
 // A line that isn't skipped, as if it were the first: 2, then 3, then 4. The numbers are tested before they become bytes.
 pub fn line_task(line: &[u8]) -> Result<Task, Refusal>
-    ensures refused { refusal_in result ≡ line_refusal 0 line.now }
-    ensures good { IfOk result (λ task. entry_of task ≡ line_task line.now) }
+    ensures good { IfOk result (λ task. (line_refusal 0 line.now ≡ 0) × (entry_of task ≡ line_task line.now)) }
+    ensures refused { IfErr result (λ refusal. line_refusal 0 line.now ≡ number_of refusal) }
 {
     let fields = line_fields(line).ok_or(Refusal::Malformed)?;
     let numbers = fields.as_slice();
@@ -47,18 +46,6 @@ pub fn line_task(line: &[u8]) -> Result<Task, Refusal>
         steps: ((numbers.len() - 1) / 2) as u8,
         pattern: pattern_of(&numbers[2..]).ok_or(Refusal::OutOfRange)?,
     };
-    admit(task)?;
+    task.admit()?;
     Ok(task)
-}
-
-// A task that no rule for one task refuses.
-fn admit(task: Task) -> Result<(), Refusal>
-    ensures { refusal_in result ≡ task_refusal (entry_of task) }
-{
-    match task_refusal(task) {
-        0 => Ok(()),
-        2 => Err(Refusal::Malformed),
-        3 => Err(Refusal::OutOfRange),
-        _ => Err(Refusal::LateDeadline),
-    }
 }
