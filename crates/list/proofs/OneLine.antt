@@ -6,14 +6,16 @@ use mathlib.Core.Path.{◌≡◌, refl, sym, ap, ◌∙◌}
 use Prim.Native.Nat.{ℕ, ◌+◌, ◌-◌, ◌/◌, ◌≤◌, ◌<◌}
 use native.Mathlib.Omega.{arith}
 use Rattle.std.specs.Prelude.{Option, Some, None}
+use Rattle.std.proofs.lemmas.List.{take_rest}
 use borrow.Author.Tests.{eqb-true, ne_eqb, leb-false, le-leb}
 use lib.Dec.{leb, eqb, leb-zero}
-use lib.ListN.{length, get_or, drop, replicate, length-map, length-drop, length-append, length-replicate}
+use lib.ListN.{length, get_or, take, drop, replicate, length-map, length-drop, length-append, length-replicate}
 use lib.Seq.{ext_get_or}
 use Rattle.rules.specs.Lists.{all_of, padded, tabulate}
 use Rattle.rules.specs.Records.{TaskRecord, between, all_between, pattern_of, task_refusal}
 use Rattle.rules.proofs.Lists.{tabulate-length, tabulate-at}
 use Rattle.rules.proofs.Set.Tidy.{padded-take}
+use Rattle.tasks.specs.declared.Task.{Task}
 use Rattle.tasks.specs.Views.{entry_of}
 use Rattle.list.specs.Text.{words}
 use Rattle.list.specs.Reading.{is_field, number, right_count, well_formed, task_from, line_task, line_refusal}
@@ -141,20 +143,29 @@ module _ (l : List ℕ) where
       unfolding pattern_of line_task task_from
       pattern-is = rw (← ns-are) (padded-take 7 0 (drop 2 ns) ((length ns - 1) / 2 + (length ns - 1) / 2 - 1) (length-drop 2 ns ∙ sym (right (length ns) k).odd))
 
+      -- the units are the numbers behind the first two
+      units : take (length ns - 2) (drop 2 ns) ≡ drop 2 ns
+      units = take_rest ns 2
+
       -- refusal 3 by a unit above 255
-      pub refuse_units : None ≡ units_of (drop 2 ns) → line_refusal 0 l ≡ 3
+      pub refuse_units : None ≡ units_of (take (length ns - 2) (drop 2 ns)) → line_refusal 0 l ≡ 3
       refuse_units h =
           by-task
           ∙ refused-three (line_task l) (rw steps-are (right (length ns) k).some) (rw steps-are (right (length ns) k).most)
-          (rw pattern-is (above (drop 2 ns) (units-none (drop 2 ns) h)))
+          (rw pattern-is (above (drop 2 ns) (units-none (drop 2 ns) (rw units at h))))
 
-      pub task_is : (p : List ℕ) → Some p ≡ units_of (drop 2 ns)
-          → entry_of (record { period = get_or ns 0 0; deadline = get_or ns 1 0; steps = (length ns - 1) / 2; pattern = p }) ≡ line_task l
-      unfolding entry_of line_task task_from
-      task_is p h =
-          let q = units-some p (drop 2 ns) h in
-          let m : length p ≡ 7 = ap length q ∙ padded-seven (drop 2 ns) (omega (arith, length-drop 2 ns, (right (length ns) k).high)) in
-          rw (tabulated p m, q, ← ns-are)
+      module _ (p : List ℕ) (h : Some p ≡ units_of (take (length ns - 2) (drop 2 ns))) where
+        abbrev task : Task
+        task = record { period = get_or ns 0 0; deadline = get_or ns 1 0; steps = (length ns - 1) / 2; pattern = p }
 
-      pub refuse_task : (t : TaskRecord) → t ≡ line_task l → line_refusal 0 l ≡ task_refusal t
-      refuse_task t q = by-task ∙ ap task_refusal (sym q)
+        pub task_is : entry_of task ≡ line_task l
+        unfolding entry_of line_task task_from
+        task_is =
+            let q = units-some p (drop 2 ns) (rw units at h) in
+            let m : length p ≡ 7 = ap length q ∙ padded-seven (drop 2 ns) (omega (arith, length-drop 2 ns, (right (length ns) k).high)) in
+            rw (tabulated p m, q, ← ns-are)
+
+        pub refuse_task : line_refusal 0 l ≡ task_refusal (entry_of task)
+        refuse_task = by-task ∙ ap task_refusal (sym task_is)
+
+pub ruleset line_laws = (refuse_words, refuse_count, refuse_units, task_is, refuse_task)
