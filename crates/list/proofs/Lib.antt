@@ -4,5 +4,6 @@ pub mod Words
 pub mod Reader
 pub mod Pattern
 pub mod OneLine
+pub mod Sets
 pub mod Meaning
 pub mod Promises

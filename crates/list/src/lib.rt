@@ -40,6 +40,7 @@ impl From<Refusal> for Refused<'_> {
     }
 }
 
+#[tactic(auto, using(crate::proofs::Sets::set_more))]
 // The set that has read `rs`, with one task more.
 fn with_task(set: TaskSet, task: Task) -> TaskSet
     requires { set.count < 8 }
@@ -51,6 +52,7 @@ fn with_task(set: TaskSet, task: Task) -> TaskSet
     more
 }
 
+#[tactic(auto, using(crate::proofs::Sets::set_laws))]
 // A line, after the set that has read `rs`. A ninth task is 5 whatever its line holds.
 fn after_line(set: TaskSet, line: &[u8]) -> Result<TaskSet, Refusal>
     ensures good { (rs : List TaskRecord) → record_of set ≡ (accepted rs).set → IfOk result (λ more. (refusal_after rs line.now ≡ 0) × (record_of more ≡ (accepted (tasks_after rs line.now)).set)) }
@@ -66,6 +68,7 @@ fn after_line(set: TaskSet, line: &[u8]) -> Result<TaskSet, Refusal>
     Ok(with_task(set, task))
 }
 
+#[tactic(auto, using(crate::proofs::Sets::end_none, crate::proofs::Sets::end_over, crate::proofs::Sets::end_good))]
 // The end of a list, after the set that has read `rs`: 5 if there is no task, 6 by the hyper-period.
 fn finish(set: TaskSet) -> Result<TaskSet, Refusal>
     ensures good { (rs : List TaskRecord) → record_of set ≡ (accepted rs).set → IfOk result (λ more. finish rs ≡ reply_of (Ok more)) }
