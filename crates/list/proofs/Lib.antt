@@ -5,5 +5,6 @@ pub mod Reader
 pub mod Pattern
 pub mod OneLine
 pub mod Sets
+pub mod ByLines
 pub mod Meaning
 pub mod Promises

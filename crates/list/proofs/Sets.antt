@@ -6,14 +6,15 @@ use mathlib.Core.Path.{◌≡◌, refl, sym, ap, ◌∙◌}
 use Prim.Native.Nat.{ℕ, ◌+◌, ◌≤◌, ◌<◌}
 use native.Mathlib.Omega.{arith}
 use Rattle.std.specs.Prelude.{Ok, is_none}
+use Rattle.std.specs.Array.{AllOfLen}
 use borrow.Author.Tests.{eqb-true, eqb-false, eq-eqb, ne_eqb, lt-ltb, le-ltb, le-leb, lt-leb}
 use lib.Dec.{ltb, eqb}
 use lib.ListN.{length, get_or, set, length-append, length-set, length-map}
 use lib.Seq.{ext_get_or, get_or-set_same, get_or-set_other}
-use Rattle.rules.specs.Lists.{is_zero, padded}
+use Rattle.rules.specs.Lists.{is_zero, padded, tabulate}
 use Rattle.rules.specs.Hyper.{hyper}
 use Rattle.rules.specs.Records.{TaskRecord, SetRecord, tasks_in, used, set_in}
-use Rattle.rules.specs.States.{blank_task}
+use Rattle.rules.specs.States.{blank_task, blank_set}
 use Rattle.rules.proofs.Laws.{le-or-lt}
 use Rattle.rules.proofs.Set.Tidy.{padded-take}
 use Rattle.tasks.specs.declared.Task.{Task}
@@ -24,6 +25,24 @@ use Rattle.tasks.proofs.Views.{entries-length, entry_at}
 use Rattle.list.specs.Reading.{skipped, line_task, line_refusal, refused_whole, accepted, finish, reply_of}
 use Rattle.list.specs.Inner.{refusal_after, tasks_after}
 use Rattle.list.proofs.Pattern.{padded-more}
+
+-- ── no task ─────────────────────────────────────────────────────────────────
+
+-- what `Task::default()` gives
+abbrev Blank : Task → Type 0
+Blank t = (t.period ≡ 0) × ((t.deadline ≡ 0) × ((t.steps ≡ 0) × AllOfLen (λ b. b ≡ 0) t.pattern 7))
+
+entry-blank : (t : Task) → Blank t → entry_of t ≡ blank_task
+unfolding entry_of blank_task tabulate
+entry-blank t h =
+    let p = h.1.1.1.at in
+    rw (h.0, h.1.0, h.1.1.0, p 0 0 (omega arith), p 1 0 (omega arith), p 2 0 (omega arith), p 3 0 (omega arith), p 4 0 (omega arith), p 5 0 (omega arith), p 6 0 (omega arith))
+
+pub record-blank : (s : TaskSet) → (s.count ≡ 0) × AllOfLen Blank s.tasks 8 → record_of s ≡ blank_set
+unfolding record_of blank_set tabulate
+record-blank s h =
+    let e = λ (i : ℕ) (k : i < 8). entry-blank (get_or s.tasks i no_entry) (h.1.at i no_entry k) in
+    rw (h.0, e 0 (omega arith), e 1 (omega arith), e 2 (omega arith), e 3 (omega arith), e 4 (omega arith), e 5 (omega arith), e 6 (omega arith), e 7 (omega arith))
 
 -- ── a task stored ───────────────────────────────────────────────────────────
 

@@ -1,10 +1,21 @@
 -- What the reader's own functions give, for their contracts: the fields of words, the units of a pattern, and the tasks after a line.
-use Rattle.std.specs.Prelude.{true, cond, ◌&&◌, List, [], ◌∷◌, ◌++◌, map, ◌≡◌, ℕ, leb, nat_lt, length, take, Option, Some, None, if◌then◌else◌}
+use Rattle.std.specs.Prelude.{true, cond, ◌&&◌, List, [], ◌∷◌, ◌++◌, map, ◌≡◌, ◌<◌, ℕ, ◌+◌, leb, nat_lt, length, take, drop, Option, Some, None, if◌then◌else◌}
 use Rattle.rules.specs.Lists.{all_of, padded}
 use Rattle.rules.specs.Records.{TaskRecord, all_between}
+use Rattle.tasks.specs.declared.refusal.Refusal.{Refusal}
+use Rattle.list.specs.declared.Refused.{Refused}
+use Rattle.list.specs.Text.{lines}
 use Rattle.list.specs.Reading.{is_field, number, skipped, line_task, line_refusal}
 use Rattle.list.specs.declared.numbers.Digits.{Digits}
 use Rattle.list.specs.declared.numbers.Numbers.{Numbers}
+
+-- ── lines ───────────────────────────────────────────────────────────────────
+
+-- l is the first line of a text without its line feed, and ms is what is behind that
+pub record IsFirstLine (text l ms : List ℕ) : Type 0 where
+  pub parts : 0 < length text → lines text ≡ l ∷ lines ms
+  pub line : l ≡ take (length l) text
+  pub behind : ms ≡ drop (length l + 1) text
 
 -- ── fields ──────────────────────────────────────────────────────────────────
 
@@ -44,3 +55,12 @@ refusal_after rs l = cond (skipped l) 0 (line_refusal (length rs) l)
 
 unfoldable pub tasks_after : List TaskRecord → List ℕ → List TaskRecord
 tasks_after rs l = cond (skipped l) rs (rs ++ line_task l ∷ [])
+
+-- ── a list ──────────────────────────────────────────────────────────────────
+
+-- a refusal for which no line is to blame
+pub record BlamesNoLine (why : Refusal) (e : Refused) : Type 0 where
+  pub same : e.why ≡ why
+  pub line : e.line ≡ 0
+  pub start : e.start ≡ 0
+  pub text : e.text.now ≡ []

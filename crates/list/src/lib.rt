@@ -6,7 +6,7 @@ ghost use Rattle.rules.specs.Records.{TaskRecord};
 ghost use Rattle.tasks.specs.Refusals.{number_of};
 ghost use Rattle.tasks.specs.Views.{entry_of, record_of};
 ghost use Rattle.list.specs.Reading.{reply_of, accepted, finish, read_list, refused_whole, shown};
-ghost use Rattle.list.specs.Inner.{refusal_after, tasks_after};
+ghost use Rattle.list.specs.Inner.{BlamesNoLine, refusal_after, tasks_after};
 
 use crate::line::line_task;
 use crate::text::{first_line, is_skipped};
@@ -28,7 +28,7 @@ pub struct Refused<'a> {
 
 // A refusal for which no line is to blame.
 impl From<Refusal> for Refused<'_> {
-    ghost from_gives = { λ why e. (e.why ≡ why) × (e.line ≡ 0) × (e.start ≡ 0) × (e.text.now ≡ []) };
+    ghost from_gives = { BlamesNoLine };
 
     fn from(why: Refusal) -> Self {
         Refused {

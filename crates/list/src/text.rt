@@ -1,7 +1,8 @@
 // The bytes of a text: what ends a line, what parts fields, and what is skipped.
-ghost use Rattle.std.specs.Prelude.{◌≡◌, ◌∷◌, ◌<◌, length, not, position};
-ghost use Rattle.list.specs.Text.{ends_line, parts_fields, lines};
+ghost use Rattle.std.specs.Prelude.{◌≡◌, not, position};
+ghost use Rattle.list.specs.Text.{ends_line, parts_fields};
 ghost use Rattle.list.specs.Reading.{is_comment, skipped};
+ghost use Rattle.list.specs.Inner.{IsFirstLine};
 
 // What ends a line: a line feed.
 #[tactic(auto, unfolding(crate::specs::Text::ends_line))]
@@ -29,7 +30,7 @@ fn line_end(text: &[u8]) -> Option<usize>
 // The first line without its line feed, and what is behind it.
 #[tactic(auto, using(crate::proofs::Lines::line_cut, crate::proofs::Lines::line_whole))]
 pub fn first_line(text: &[u8]) -> (&[u8], &[u8])
-    ensures { 0 < length text.now → lines text.now ≡ result.0.now ∷ lines result.1.now }
+    ensures { IsFirstLine text.now result.0.now result.1.now }
 {
     match line_end(text) {
         Some(end) => (&text[..end], &text[end + 1..]),
