@@ -111,6 +111,10 @@ number_more v (a ∷ p) b = number_more (v * 10 + (a - 48)) p b
 
 -- ── a field's beginning ─────────────────────────────────────────────────────
 
+pub begun_none : (d : Digits) → d.count ≡ 0 → d.value ≡ 0 → Begun [] d
+unfolding is_field all_of number number_from
+begun_none d c v = record { field = refl; many = sym c; worth = sym v }
+
 field-more : (p : List ℕ) (b : ℕ) → is_field (p ++ b ∷ []) ≡ ((all_of is_digit p && is_digit b) && leb (length p + 1) 4)
 unfolding is_field all_of
 field-more p b = rw (all_append is_digit p (b ∷ []), length-append p (b ∷ []), and-true)

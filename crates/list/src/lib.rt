@@ -40,8 +40,8 @@ impl From<Refusal> for Refused<'_> {
     }
 }
 
-#[tactic(auto, using(crate::proofs::Sets::set_more))]
 // The set that has read `rs`, with one task more.
+#[tactic(auto, using(crate::proofs::Sets::set_more))]
 fn with_task(set: TaskSet, task: Task) -> TaskSet
     requires { set.count < 8 }
     ensures { (rs : List TaskRecord) → record_of set ≡ (accepted rs).set → record_of result ≡ (accepted (rs ++ entry_of task ∷ [])).set }
@@ -52,8 +52,8 @@ fn with_task(set: TaskSet, task: Task) -> TaskSet
     more
 }
 
-#[tactic(auto, using(crate::proofs::Sets::set_laws))]
 // A line, after the set that has read `rs`. A ninth task is 5 whatever its line holds.
+#[tactic(auto, using(crate::proofs::Sets::set_laws))]
 fn after_line(set: TaskSet, line: &[u8]) -> Result<TaskSet, Refusal>
     ensures good { (rs : List TaskRecord) → record_of set ≡ (accepted rs).set → IfOk result (λ more. (refusal_after rs line.now ≡ 0) × (record_of more ≡ (accepted (tasks_after rs line.now)).set)) }
     ensures refused { (rs : List TaskRecord) → record_of set ≡ (accepted rs).set → IfErr result (λ refusal. refusal_after rs line.now ≡ number_of refusal) }
@@ -68,8 +68,8 @@ fn after_line(set: TaskSet, line: &[u8]) -> Result<TaskSet, Refusal>
     Ok(with_task(set, task))
 }
 
-#[tactic(auto, using(crate::proofs::Sets::end_none, crate::proofs::Sets::end_over, crate::proofs::Sets::end_good))]
 // The end of a list, after the set that has read `rs`: 5 if there is no task, 6 by the hyper-period.
+#[tactic(auto, using(crate::proofs::Sets::end_none, crate::proofs::Sets::end_over, crate::proofs::Sets::end_good))]
 fn finish(set: TaskSet) -> Result<TaskSet, Refusal>
     ensures good { (rs : List TaskRecord) → record_of set ≡ (accepted rs).set → IfOk result (λ more. finish rs ≡ reply_of (Ok more)) }
     ensures refused { (rs : List TaskRecord) → record_of set ≡ (accepted rs).set → IfErr result (λ refusal. finish rs ≡ refused_whole (number_of refusal)) }
@@ -99,7 +99,14 @@ pub fn read(list: &[u8]) -> Result<TaskSet, Refused<'_>>
         let (text, behind) = first_line(rest);
         set = match after_line(set, text) {
             Ok(more) => more,
-            Err(why) => return Err(Refused { why, line, start, text }),
+            Err(why) => {
+                return Err(Refused {
+                    why,
+                    line,
+                    start,
+                    text,
+                });
+            }
         };
         line += 1;
         rest = behind;

@@ -30,8 +30,8 @@ fn pattern_of(units: &[u16]) -> Option<[u8; 7]>
     Some(pattern)
 }
 
-#[tactic(auto, using(crate::proofs::OneLine::line_laws))]
 // A line that isn't skipped, as if it were the first: 2, then 3, then 4. The numbers are tested before they become bytes.
+#[tactic(auto, using(crate::proofs::OneLine::line_laws))]
 pub fn line_task(line: &[u8]) -> Result<Task, Refusal>
     ensures good { IfOk result (λ task. (line_refusal 0 line.now ≡ 0) × (entry_of task ≡ line_task line.now)) }
     ensures refused { IfErr result (λ refusal. line_refusal 0 line.now ≡ number_of refusal) }

@@ -1,12 +1,17 @@
 // What is read of a line so far: a field's digits, and the numbers of the fields.
 ghost use Rattle.std.specs.Prelude.{false, ◌≡◌, List, [], ◌∷◌, ◌++◌, ℕ, ◌≤◌, ◌<◌, ◌^◌, MatchOption};
+ghost use Rattle.list.specs.declared.numbers.TheConstants.{MOST_DIGITS, MOST_FIELDS};
+
+// The most digits of a field, and the most fields of a line.
+const MOST_DIGITS: u8 = 4;
+const MOST_FIELDS: usize = 9;
 
 // A field's digits so far: how many, at most four, and the number that they write.
 #[derive(Clone, Copy, Debug, PartialEq, Eq)]
 pub struct Digits {
     count: u8,
     pub value: u16,
-    ghost few: { count ≤ 4 },
+    ghost few: { count ≤ MOST_DIGITS },
     ghost fits: { value < 10 ^ count },
 }
 
@@ -28,7 +33,7 @@ impl Digits {
     pub fn with(self, b: u8) -> Option<Digits>
         ensures { (p : List ℕ) → Begun p self → MatchOption result (is_field (p ++ b ∷ []) ≡ false) (Begun (p ++ b ∷ [])) }
     {
-        if !b.is_ascii_digit() || self.count == 4 {
+        if !b.is_ascii_digit() || self.count == MOST_DIGITS {
             return None;
         }
         Some(Digits {
@@ -42,8 +47,8 @@ impl Digits {
 #[derive(Clone, Copy, Debug, PartialEq, Eq)]
 pub struct Numbers {
     count: usize,
-    values: [u16; 9],
-    ghost few: { count ≤ 9 },
+    values: [u16; MOST_FIELDS],
+    ghost few: { count ≤ MOST_FIELDS },
 }
 
 impl Numbers {
@@ -55,7 +60,7 @@ impl Numbers {
     {
         Numbers {
             count: 0,
-            values: [0; 9],
+            values: [0; MOST_FIELDS],
         }
     }
 
@@ -70,7 +75,7 @@ impl Numbers {
     pub fn with(self, value: u16) -> Option<Numbers>
         ensures { numbers_in result ≡ one_more (numbers_of self) value }
     {
-        if self.count == 9 {
+        if self.count == MOST_FIELDS {
             return None;
         }
         let mut more = self;
