@@ -19,7 +19,6 @@ use Rattle.tasks.specs.declared.TaskSet.{TaskSet}
 use Rattle.std.proofs.lemmas.List.{drop_all}
 use Rattle.std.specs.Prelude.{List, map}
 use Rattle.tasks.specs.Views.{entry_of, record_of, task_of, set_of, within, joined}
-use Rattle.tasks.proofs.Views.{set-few, set_all}
 
 -- ── the divisor ─────────────────────────────────────────────────────────────
 
@@ -56,9 +55,6 @@ within-few h k = rw (le-leb h 4096 k)
 pub within-many : (h : ℕ) → 4096 < h → within h ≡ None
 unfolding within
 within-many h k = rw (lt-leb h 4096 k)
-
-pub multiple-fits : (a b g : ℕ) → a ≤ 65535 → b ≤ 65535 → a / g * b ≤ 65535 * 65535
-multiple-fits a b g h k = mul-le-mul (le_trans (div-le_self a g) h) k
 
 lcm-zero : (b : ℕ) → lcm 0 b ≡ 0
 unfolding lcm
@@ -98,12 +94,6 @@ joined-within a h =
     past : (a : ℕ) → 4096 < h → joined a None ≡ within (lcm a h)
     past zero many = sym (rw (lcm-zero h) (within-few 0 (omega arith)))
     past (suc a) many = rw (ne_eqb (suc a) 0 (λ e. absurd (omega arith))) (sym (lcm-over (suc a) h (omega arith) many))
-
-pub set-within : (s : TaskSet) → (length (set_of s) ≤ s.count) × (length (set_of s) ≤ 8)
-set-within s =
-    ⊎_elim (λ few. let e = set-few s few in (omega arith, omega arith))
-    (λ many. let e = set_all s (omega arith) in (omega arith, omega arith))
-    (le-or-lt s.count 8)
 
 pub hyper_end : (ts : List Task) (i : ℕ) → i ≡ length ts → within (hyper (map task_of (drop i ts))) ≡ Some 1
 unfolding hyper

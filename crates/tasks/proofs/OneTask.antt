@@ -13,7 +13,7 @@ use lib.IntN.{ℤ, pos, negsuc, ◌-ℤ◌}
 use lib.Signed.{mag, non_neg, le_z}
 use lib.ListN.{length, get_or, take, drop, drop_of_length-le, get_or-eq_default}
 use lib.Seq.{drop-cons, get_or-take, length-take-le, ext_get_or}
-use mir.Syntax.{w8, w16, w32}
+use mir.Syntax.{w8, w32}
 use mir.Val.{Fits, SFits, hbits, to_z, of_z}
 use mir.Facts.{to_z_pos, to_z-of_z}
 use borrow.Author.Rules.{sfits_of}
@@ -140,7 +140,7 @@ unfolding sum
 sum-small [] h = omega arith
 sum-small (n ∷ ns) h = let a = h 0 (omega arith) in let b = sum-small ns (λ i k. h (suc i) (omega arith)) in omega arith
 
-span_small : (t : Task) → ((i : ℕ) → Fits w8 (get_or t.pattern i 0)) → span (task_of t) ≤ 1785
+pub span_small : (t : Task) → ((i : ℕ) → Fits w8 (get_or t.pattern i 0)) → span (task_of t) ≤ 1785
 unfolding span
 span_small t h =
     let a = sum-small (task_of t).pattern (λ i k. rw (sym (entry_read t i k)) (h i)) in
@@ -154,9 +154,6 @@ undone-below τ p e = go (le-or-lt (span τ) p)
     go : (span τ ≤ p) ⊎ (p < span τ) → p < span τ
     go (inl k) = clash-bool (sym (rw (done_at τ p k) at e))
     go (inr k) = k
-
-pub rise-fits : (t : Task) (p : ℕ) → ((i : ℕ) → Fits w8 (get_or t.pattern i 0)) → is_done (standing (task_of t) p) ≡ false → Fits w16 (p + 1)
-rise-fits t p h e = let a = span_small t h in let b = undone-below (task_of t) p e in omega arith
 
 -- ── what a call of `standing_at` told ───────────────────────────────────────
 

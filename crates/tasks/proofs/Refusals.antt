@@ -7,7 +7,7 @@ use Prim.Native.Nat.{ℕ, zero, suc, ◌+◌, ◌≤◌, ◌<◌}
 use native.Mathlib.Nat.{pos_of_ne-zero}
 use native.Mathlib.Numerals.{add-one}
 use native.Mathlib.Omega.{arith}
-use borrow.Author.Tests.{ne_eqb, not-true, not-false, le-leb, lt-leb, lt-ltb, le-ltb}
+use borrow.Author.Tests.{ne_eqb, le-leb, lt-leb, lt-ltb, le-ltb}
 use Rattle.std.specs.List.{list_any}
 use lib.Dec.{leb, ltb, eqb}
 use lib.ListN.{length, get_or, drop}
@@ -31,13 +31,6 @@ and_no : (a b : Bool) → false ≡ b → false ≡ a && b
 and_no true b e = e
 and_no false b e = refl
 
--- what a call says, with the outcome of a test that is its denial
-pub test-failed : (a b : Bool) → a ≡ b → not a ≡ true → false ≡ b
-test-failed a b e h = sym (not-true a h) ∙ e
-
-pub test-passed : (a b : Bool) → a ≡ b → not a ≡ false → true ≡ b
-test-passed a b e h = sym (not-false a h) ∙ e
-
 -- ── a number in its range ───────────────────────────────────────────────────
 
 pub between-zero : (b x : ℕ) → x ≡ 0 → false ≡ between 1 b x
@@ -55,13 +48,6 @@ unfolding all_between
 all-no b [] i h e = let z : ⊥ = omega arith in absurd z
 all-no b (x ∷ xs) zero h e = ap (λ t. t && all_between 1 b xs) (between-zero b x e)
 all-no b (x ∷ xs) (suc i) h e = and_no (between 1 b x) (all_between 1 b xs) (all-no b xs i (omega arith) e)
-
-all_yes : (b : ℕ) (xs : List ℕ) → ((i : ℕ) → i < length xs → get_or xs i 0 ≡ 0 → ⊥) → ((i : ℕ) → i < length xs → get_or xs i 0 ≤ b) → true ≡ all_between 1 b xs
-unfolding all_between
-all_yes b [] f g = refl
-all_yes b (x ∷ xs) f g =
-    all_yes b xs (λ i h. f (suc i) (omega arith)) (λ i h. g (suc i) (omega arith))
-    ∙ ap (λ t. t && all_between 1 b xs) (sym (le-leb x b (g 0 (omega arith))) ∙ between_more b x (f 0 (omega arith)))
 
 pub units-any : (ns : List ℕ) → ((i : ℕ) → get_or ns i 0 ≤ 255) → not (list_any (λ n. eqb n 0) ns) ≡ all_between 1 255 ns
 unfolding all_between between

@@ -7,7 +7,7 @@ use Prim.Native.Nat.{ℕ, suc, ◌+◌, ◌%◌, ◌≤◌, ◌<◌}
 use native.Mathlib.Nat.{mod-zero, mod-lt, mod_self, mod-eq_of_lt, suc-mod}
 use native.Mathlib.Numerals.{add-one}
 use native.Mathlib.Omega.{arith}
-use borrow.Author.Tests.{eq-eqb, ne_eqb, eqb-true, eqb-false, not-true, not-false}
+use borrow.Author.Tests.{eq-eqb, ne_eqb, eqb-true, eqb-false, not-true}
 use lib.Dec.{eqb}
 use lib.ListN.{length, get_or, drop, set, replicate, drop_of_length-le}
 use lib.Seq.{drop-cons}
@@ -17,7 +17,6 @@ use Rattle.rules.proofs.Laws.{le-or-lt}
 use Rattle.tasks.specs.declared.TaskSet.{TaskSet}
 use Rattle.tasks.specs.Slots.{onward, well_after}
 use Rattle.tasks.specs.Views.{set_of, progress_of, position_of, array_of}
-use Rattle.tasks.proofs.OneTask.{done-from, undone-till}
 use Rattle.tasks.proofs.Positions.{Written, each_long, number_at, written_start, written_step, written-end}
 
 -- ── tests ───────────────────────────────────────────────────────────────────
@@ -57,20 +56,6 @@ starts-full t τ = go (eqb (suc (t % τ.period)) τ.period) refl
     go false e = let z = since-amid t τ.period (eqb-false _ _ e) in ne_eqb (suc t % τ.period) 0 (λ y. omega arith)
 
 -- ── one task ────────────────────────────────────────────────────────────────
-
--- w tells whether its job ends its slot well, with progress `end`
-module _ (τ : Task) (length end : ℕ) (whole : length ≡ span τ) (w : Bool) where
-  -- it does not
-  pub starts-ill : not w ≡ true → false ≡ w && (is_done (standing τ end) && in_time 0 τ 0)
-  starts-ill h = rw (not-true w h)
-
-  -- it is not done
-  pub starts-undone : end < length → false ≡ w && (is_done (standing τ end) && in_time 0 τ 0)
-  starts-undone h = rw (undone-till τ length end whole h) (sym (and-false w))
-
-  -- r tells whether the new one has time
-  pub starts-done : (r : Bool) → not w ≡ false → length ≤ end → r ≡ in_time 0 τ 0 → r ≡ w && (is_done (standing τ end) && in_time 0 τ 0)
-  starts-done r k h e = rw (not-false w k, done-from τ length end whole h) e
 
 -- r is the time since release, w tells whether the progress `end` at the end of the slot is in time
 module _ (t : ℕ) (τ : Task) (q end r : ℕ) (w : Bool) (ends : end ≡ q) (since : r ≡ t % τ.period) (timely : w ≡ in_time (r + 1) τ end) where

@@ -111,7 +111,7 @@ module _ (s : TaskSet) (eight : length s.tasks ≡ 8) where
       let m = length-map (take (min s.count 8) s.tasks) task_of in
       ext_get_or no_task (map task_of (take (min s.count 8) s.tasks)) (set_of s) (omega arith)
       (λ i h. let k : i < length (set_of s) = omega arith in let w = within i k in
-          get_or-map task_of (take (min s.count 8) s.tasks) i no_entry ∙ ap task_of (slice-at i no_entry k) ∙ sym (set_at s i (omega arith) (omega arith)))
+      get_or-map task_of (take (min s.count 8) s.tasks) i no_entry ∙ ap task_of (slice-at i no_entry k) ∙ sym (set_at s i (omega arith) (omega arith)))
     where
       within : (i : ℕ) → i < length (set_of s) → i < min s.count 8
       within i k = let l = slice-length in omega (arith, length-take (min s.count 8) s.tasks)
@@ -124,7 +124,7 @@ module _ (s : TaskSet) (eight : length s.tasks ≡ 8) where
       let m = length-map (take (min s.count 8) s.tasks) entry_of in
       ext_get_or (entry_of no_entry) (map entry_of (take (min s.count 8) s.tasks)) (used (record_of s)) (omega arith)
       (λ i h. let k : i < length (set_of s) = omega arith in let w = within i k in
-          get_or-map entry_of (take (min s.count 8) s.tasks) i no_entry ∙ ap entry_of (slice-at i no_entry k) ∙ sym (used-at s i (entry_of no_entry) (omega arith) (omega arith)))
+      get_or-map entry_of (take (min s.count 8) s.tasks) i no_entry ∙ ap entry_of (slice-at i no_entry k) ∙ sym (used-at s i (entry_of no_entry) (omega arith) (omega arith)))
     where
       within : (i : ℕ) → i < length (set_of s) → i < min s.count 8
       within i k = let l = slice-length in omega (arith, length-take (min s.count 8) s.tasks)

@@ -5,6 +5,7 @@ pub mod pattern;
 pub mod position;
 pub mod refusal;
 pub mod set;
+pub mod timed;
 
 pub use position::Position;
 pub use refusal::Refusal;

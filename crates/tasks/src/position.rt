@@ -3,7 +3,7 @@ ghost use Rattle.std.specs.Prelude.{◌≡◌, ◌&&◌, ◌≤◌};
 ghost use Rattle.rules.specs.Positions.{allowed, next, live_position, legal};
 ghost use Rattle.tasks.specs.Views.{set_of, progress_of, position_of, array_of};
 
-use crate::pattern::{live_at, pass, standing_at};
+use crate::timed::Timed;
 use crate::{IDLE, TaskSet};
 
 // A slot, and the progress of each task at its start.
@@ -26,7 +26,8 @@ impl TaskSet {
         ensures { result ≡ live_position (set_of self.now) (position_of self.now at.now.slot at.now.progress) }
     {
         for (i, task) in self.used().iter().enumerate() {
-            if !live_at(*task, u32::from(at.slot), at.progress[i]) {
+            let task = Timed::from(*task);
+            if !task.in_time(task.since_start(at.slot), at.progress[i]) {
                 return false;
             }
         }
@@ -42,7 +43,7 @@ impl TaskSet {
         }
         let used = self.used();
         let i = usize::from(choice);
-        i < used.len() && standing_at(used[i], progress[i]).is_ready()
+        i < used.len() && Timed::from(used[i]).standing_at(progress[i]).is_ready()
     }
 
     // Where a choice leads from a position.
@@ -53,7 +54,7 @@ impl TaskSet {
         let mut legal = self.may_choose(&at.progress, choice);
         let mut progress = [0u16; 8];
         for (i, task) in self.used().iter().enumerate() {
-            let passed = pass(*task, at.slot, at.progress[i], usize::from(choice) == i);
+            let passed = Timed::from(*task).pass(at.slot, at.progress[i], usize::from(choice) == i);
             progress[i] = passed.progress;
             legal = legal && passed.well;
         }

@@ -3,6 +3,7 @@ use native.Mathlib.Omega.{arith}
 use mathlib.Core.Path.{◌≡◌, refl, ◌∙◌}
 use mathlib.Core.Bool.{◌&&◌}
 use Rattle.rules.specs.Positions.{passed}
+use Rattle.tasks.specs.Views.{no_entry}
 use Rattle.tasks.proofs.Positions.{in_use-length, in_use-at}
 use Rattle.tasks.proofs.Slotwise.{through-start, through-step, through-end}
 use Rattle.tasks.proofs.TaskSet.advance.Goals as goal
@@ -16,7 +17,7 @@ unfolding passed
 loop-i-preserved c =
     let l = in_use-length _ _ c.used-task-items.ensures.tasks in
     let a : c.if-legal.legal ≡ c.loop-i.legal && c.pass-passed.result.well = elim c.if-legal.branch [ then-legal w ↦ rw w.if-legal.true w.legal-is | else-legal w ↦ rw w.if-legal.false (w.legal-is ∙ w.if-legal.false) ] in
-    through-step _ _ _ _ _ _ _ _ _ _ c.loop-i.invariant (omega arith) (c.pass-passed.ensures.ending ∙ rw (in_use-at _ _ c.used-task-items.ensures.tasks c.loop-i.i _ c.loop-i-test.true, c.from.ensures) refl) (c.pass-passed.ensures.on ∙ rw (in_use-at _ _ c.used-task-items.ensures.tasks c.loop-i.i _ c.loop-i-test.true, c.from.ensures) refl) a
+    through-step _ _ _ _ _ _ _ _ _ _ c.loop-i.invariant (omega arith) (c.pass-passed.ensures.ending ∙ rw (c.from.ensures, c.from-in-loop-i.ensures, in_use-at _ _ c.used-task-items.ensures.tasks c.loop-i.i no_entry c.loop-i-test.true) refl) (c.pass-passed.ensures.on ∙ rw (c.from.ensures, c.from-in-loop-i.ensures, in_use-at _ _ c.used-task-items.ensures.tasks c.loop-i.i no_entry c.loop-i-test.true) refl) a
 
 pub returns-clause-leads : goal.returns-clause-leads
 returns-clause-leads c =

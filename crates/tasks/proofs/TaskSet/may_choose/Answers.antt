@@ -12,7 +12,7 @@ pub returns-then-i-used : goal.returns-then-i-used
 returns-then-i-used c =
     let l = in_use-length _ _ c.used-used.ensures.tasks in
     let t = in_use-at _ _ c.used-used.ensures.tasks c.from-i.result no_entry c.if-i-used.true in
-    c.is_ready.ensures ∙ task-may _ _ _ _ c.if-choice-eq-IDLE.false (omega arith) (c.standing_at.ensures ∙ rw (t, c.from-i.ensures))
+    c.is_ready.ensures ∙ task-may _ _ _ _ c.if-choice-eq-IDLE.false (omega arith) (c.standing_at.ensures ∙ rw (c.from.ensures, t, c.from-i.ensures))
 
 pub returns-else-i-used : goal.returns-else-i-used
 returns-else-i-used c =
