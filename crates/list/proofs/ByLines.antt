@@ -1,6 +1,6 @@
 -- The reading of a list in the code's terms: what one line does to it, and that the part shown is the refused line.
 use mathlib.Core.Bool.{Bool, true, false}
-use mathlib.Core.List.{List, [], ◌∷◌, ◌++◌}
+use mathlib.Core.List.{List, [], ◌∷◌}
 use mathlib.Core.Logic.{◌⊎◌, inl, inr}
 use mathlib.Core.Path.{◌≡◌, refl, sym, ap, ◌∙◌}
 use Prim.Native.Nat.{ℕ, zero, suc, ◌+◌, ◌-◌, ◌≤◌, ◌<◌}
@@ -9,8 +9,7 @@ use native.Mathlib.Omega.{arith}
 use Rattle.std.specs.Prelude.{Result, Ok, Err, IfErr}
 use Rattle.std.specs.Result.{IsErrAnd}
 use borrow.Author.Tests.{lt-ltb, le-ltb}
-use lib.Dec.{ltb}
-use lib.ListN.{length, take, drop, length-drop, drop_of_length-le}
+use lib.ListN.{length, drop, length-drop, drop_of_length-le}
 use lib.Seq.{drop-drop}
 use Rattle.rules.specs.Lists.{padded}
 use Rattle.rules.specs.Records.{TaskRecord}
@@ -24,7 +23,8 @@ use Rattle.tasks.specs.Views.{record_of}
 use Rattle.tasks.proofs.Refusals.{number-some}
 use Rattle.list.specs.declared.Refused.{Refused}
 use Rattle.list.specs.Text.{lines}
-use Rattle.list.specs.Reading.{skipped, line_task, line_refusal, ReadReply, refused_whole, refused_line, accepted, finish, go_on, read_from, read_list, shown, reply_of}
+use Rattle.list.specs.Reading.{skipped, line_refusal, ReadReply, refused_whole, refused_line, accepted, finish, go_on, read_from, read_list, shown, reply_of}
+use Rattle.list.proofs.Sets.{record_blank}
 use Rattle.list.specs.Inner.{IsFirstLine, BlamesNoLine, refusal_after, tasks_after}
 
 -- ── one line ────────────────────────────────────────────────────────────────
@@ -124,6 +124,7 @@ module _ (s : List ℕ) (set : TaskSet) (i : ℕ) (rest : List ℕ) (p : Progres
         go : (length behind ≤ 0) ⊎ (0 < length behind) → behind ≡ drop (length s - length behind) s
         go (inl k) = nothing behind k ∙ sym (drop_of_length-le s {i = length s - length behind} (omega arith))
         go (inr k) = let m : at + (length l + 1) ≡ length s - length behind = omega (arith, behind-long, p.less) in f.behind ∙ ap (drop (length l + 1)) p.place ∙ drop-drop (length l + 1) at s ∙ rw m
+
         on : (length behind ≤ 0) ⊎ (0 < length behind) → read_from (suc i) (at + suc (length l)) (tasks_after p.tasks l) (lines behind) ≡ read_from (i + 1) (length s - length behind) (tasks_after p.tasks l) (lines behind)
         on (inl k) = none-left (suc i) (at + suc (length l)) (tasks_after p.tasks l) behind (omega arith) ∙ sym (none-left (i + 1) (length s - length behind) (tasks_after p.tasks l) behind (omega arith))
         on (inr k) = let m : at + suc (length l) ≡ length s - length behind = omega (arith, behind-long, p.less) in rw (add-one, m)
@@ -150,3 +151,6 @@ text_passed s (Err e) why h k = h.text ∙ shown_whole s (number_of why) k
 pub shown_none : (s : List ℕ) (set : TaskSet) → reply_of (Ok set) ≡ read_list s → [] ≡ shown s (read_list s)
 unfolding shown reply_of
 shown_none s set k = rw (← k)
+
+-- what `read` needs before its loop
+pub ruleset list_laws = (list_long, list_begins, record_blank, reply_whole, shown_whole)

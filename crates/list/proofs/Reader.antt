@@ -1,13 +1,13 @@
 -- What a byte does to the fields of a line: the first byte is get_or l 0 0 and the rest take (length l - 1) (drop 1 l).
-use mathlib.Core.Bool.{Bool, true, false, ◌&&◌, and-false, and-true}
+use mathlib.Core.Bool.{Bool, true, false, ◌&&◌, and-false}
 use mathlib.Core.List.{List, [], ◌∷◌, ◌++◌, append-nil, append_assoc, map, map-append}
 use mathlib.Core.Path.{◌≡◌, refl, sym, ap, ◌∙◌}
-use Prim.Native.Nat.{ℕ, suc, ◌+◌, ◌-◌, ◌*◌, ◌^◌, ◌≤◌, ◌<◌}
+use Prim.Native.Nat.{ℕ, suc, ◌+◌, ◌-◌, ◌≤◌, ◌<◌}
 use native.Mathlib.Omega.{arith}
 use Rattle.std.proofs.lemmas.Bool.Decides.{nat_tests}
 use Rattle.std.proofs.lemmas.List.{take_rest}
 use Rattle.std.specs.Prelude.{Option, Some, None, position}
-use borrow.Author.Tests.{leb-true, le-leb, lt-leb}
+use borrow.Author.Tests.{leb-true, lt-leb}
 use lib.Dec.{leb}
 use lib.ListN.{length, get_or, take, drop, length-append, length-map}
 use lib.Seq.{take-length, append_snoc}
@@ -15,7 +15,7 @@ use Rattle.rules.specs.Lists.{all_of}
 use Rattle.rules.proofs.Lists.{and_parts}
 use Rattle.list.specs.declared.numbers.Digits.{Digits}
 use Rattle.list.specs.Text.{parts_fields, words}
-use Rattle.list.specs.Reading.{is_digit, is_field, number}
+use Rattle.list.specs.Reading.{is_field, number}
 use Rattle.list.specs.Inner.{Begun, fields_of, one_more}
 use Rattle.list.proofs.Tests.{all_append}
 use Rattle.list.proofs.Words.{front, behind, word_at, begins_field, field_none, field_at, field_starts, digits_word, begun_digits, field_longer}
@@ -127,3 +127,6 @@ module _ (ws : List (List ℕ)) (l : List ℕ) (i : ℕ) (e : position begins_fi
 
   pub gap_on : fields_of (ws ++ words (get_or l i 0 ∷ take (length l - (i + 1)) (drop (i + 1) l))) ≡ fields_of (ws ++ words l)
   gap_on = rw (field_at l i e, take_rest l (i + 1))
+
+-- what a field and a gap give at their ends
+pub ruleset end_laws = (field_end, field_full, gap_end, gap_bad)

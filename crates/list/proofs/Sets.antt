@@ -1,6 +1,6 @@
 -- The set under construction, after the tasks rs: its record is what the reader accepts after rs.
 use mathlib.Core.Bool.{Bool, true, false}
-use mathlib.Core.List.{List, [], ◌∷◌, ◌++◌, map}
+use mathlib.Core.List.{List, [], ◌∷◌, ◌++◌}
 use mathlib.Core.Logic.{◌⊎◌, inl, inr}
 use mathlib.Core.Path.{◌≡◌, refl, sym, ap, ◌∙◌}
 use Prim.Native.Nat.{ℕ, ◌+◌, ◌≤◌, ◌<◌}
@@ -9,7 +9,7 @@ use Rattle.std.specs.Prelude.{Ok, is_none}
 use Rattle.std.specs.Array.{AllOfLen}
 use borrow.Author.Tests.{eqb-true, eqb-false, eq-eqb, ne_eqb, lt-ltb, le-ltb, le-leb, lt-leb}
 use lib.Dec.{ltb, eqb}
-use lib.ListN.{length, get_or, set, length-append, length-set, length-map}
+use lib.ListN.{length, get_or, set, length-append, length-set}
 use lib.Seq.{ext_get_or, get_or-set_same, get_or-set_other}
 use Rattle.rules.specs.Lists.{is_zero, padded, tabulate}
 use Rattle.rules.specs.Hyper.{hyper}
@@ -38,9 +38,9 @@ entry-blank t h =
     let p = h.1.1.1.at in
     rw (h.0, h.1.0, h.1.1.0, p 0 0 (omega arith), p 1 0 (omega arith), p 2 0 (omega arith), p 3 0 (omega arith), p 4 0 (omega arith), p 5 0 (omega arith), p 6 0 (omega arith))
 
-pub record-blank : (s : TaskSet) → (s.count ≡ 0) × AllOfLen Blank s.tasks 8 → record_of s ≡ blank_set
+pub record_blank : (s : TaskSet) → (s.count ≡ 0) × AllOfLen Blank s.tasks 8 → record_of s ≡ blank_set
 unfolding record_of blank_set tabulate
-record-blank s h =
+record_blank s h =
     let e = λ (i : ℕ) (k : i < 8). entry-blank (get_or s.tasks i no_entry) (h.1.at i no_entry k) in
     rw (h.0, e 0 (omega arith), e 1 (omega arith), e 2 (omega arith), e 3 (omega arith), e 4 (omega arith), e 5 (omega arith), e 6 (omega arith), e 7 (omega arith))
 
@@ -149,5 +149,7 @@ module _ (rs : List TaskRecord) (l : List ℕ) where
     pub tasks_more : tasks_after rs l ≡ rs ++ line_task l ∷ []
     unfolding tasks_after
     tasks_more = rw h
+
+pub ruleset end_laws = (end_none, end_over, end_good)
 
 pub ruleset set_laws = (set_count, line_skipped, tasks_kept, line_ninth, line_judged, tasks_more)

@@ -9,6 +9,7 @@ use crate::text::{field_start, parts_fields};
 // In a field, of which some digits are read: it ends at what parts fields or at the line's end.
 // `numbers` has the words `ws` before it, and `p` are its digits so far.
 #[cycle(field_gap)]
+#[tactic(auto, using(crate::proofs::Reader::end_laws))]
 fn field(line: &[u8], numbers: Numbers, digits: Digits) -> Option<Numbers>
     ensures { (ws : List (List ℕ)) (p : List ℕ) → Some (numbers_of numbers) ≡ fields_of ws → Begun p digits → 0 < length p → numbers_in result ≡ fields_of (ws ++ words (p ++ line.now)) }
 {
@@ -21,6 +22,7 @@ fn field(line: &[u8], numbers: Numbers, digits: Digits) -> Option<Numbers>
 
 // Between fields: a gap ends at a digit or at the line's end. `numbers` has the words `ws` before it.
 #[cycle(field_gap)]
+#[tactic(auto, using(crate::proofs::Reader::end_laws))]
 fn gap(line: &[u8], numbers: Numbers) -> Option<Numbers>
     ensures { (ws : List (List ℕ)) → Some (numbers_of numbers) ≡ fields_of ws → numbers_in result ≡ fields_of (ws ++ words line.now) }
 {

@@ -17,6 +17,11 @@ mod line;
 mod numbers;
 mod text;
 
+// The most bytes of a list, and the most tasks of a set.
+const MOST_BYTES: usize = 4096;
+
+const MOST_TASKS: u8 = 8;
+
 // Why a list is refused, and the refused line: its number from 1, where it starts in the list, and its text. Where no line is to blame, the line is 0 and its text an empty one at 0.
 #[derive(Clone, Copy, Debug, PartialEq, Eq)]
 pub struct Refused<'a> {
@@ -61,7 +66,7 @@ fn after_line(set: TaskSet, line: &[u8]) -> Result<TaskSet, Refusal>
     if is_skipped(line) {
         return Ok(set);
     }
-    if 8 <= set.count {
+    if MOST_TASKS <= set.count {
         return Err(Refusal::TaskCount);
     }
     let task = line_task(line)?;
@@ -69,7 +74,7 @@ fn after_line(set: TaskSet, line: &[u8]) -> Result<TaskSet, Refusal>
 }
 
 // The end of a list, after the set that has read `rs`: 5 if there is no task, 6 by the hyper-period.
-#[tactic(auto, using(crate::proofs::Sets::end_none, crate::proofs::Sets::end_over, crate::proofs::Sets::end_good))]
+#[tactic(auto, using(crate::proofs::Sets::end_laws))]
 fn finish(set: TaskSet) -> Result<TaskSet, Refusal>
     ensures good { (rs : List TaskRecord) → record_of set ≡ (accepted rs).set → IfOk result (λ more. finish rs ≡ reply_of (Ok more)) }
     ensures refused { (rs : List TaskRecord) → record_of set ≡ (accepted rs).set → IfErr result (λ refusal. finish rs ≡ refused_whole (number_of refusal)) }
@@ -84,11 +89,12 @@ fn finish(set: TaskSet) -> Result<TaskSet, Refusal>
 }
 
 // The set of a list, read line by line, the first bad line deciding.
+#[tactic(auto, using(crate::proofs::ByLines::list_laws))]
 pub fn read(list: &[u8]) -> Result<TaskSet, Refused<'_>>
     ensures reply { reply_of result ≡ read_list list.now }
     ensures text { IfErr result (λ e. e.text.now ≡ shown list.now (read_list list.now)) }
 {
-    if 4096 < list.len() {
+    if MOST_BYTES < list.len() {
         return Err(Refusal::ListTooLong.into());
     }
     let mut set = TaskSet::default();
@@ -115,6 +121,7 @@ pub fn read(list: &[u8]) -> Result<TaskSet, Refused<'_>>
 }
 
 // The refused line as it stands in the list, without its line feed; an empty part at the list's start where no line is refused.
+#[tactic(auto, using(crate::proofs::ByLines::shown_none))]
 pub fn refused_line(list: &[u8]) -> &[u8]
     ensures { result.now ≡ shown list.now (read_list list.now) }
 {

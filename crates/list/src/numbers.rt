@@ -4,6 +4,7 @@ ghost use Rattle.list.specs.declared.numbers.TheConstants.{MOST_DIGITS, MOST_FIE
 
 // The most digits of a field, and the most fields of a line.
 const MOST_DIGITS: u8 = 4;
+
 const MOST_FIELDS: usize = 9;
 
 // A field's digits so far: how many, at most four, and the number that they write.
@@ -23,10 +24,7 @@ impl Digits {
     pub fn new() -> Digits
         ensures { Begun [] result }
     {
-        Digits {
-            count: 0,
-            value: 0,
-        }
+        Digits { count: 0, value: 0 }
     }
 
     // With one byte more, if it is a digit and no fifth one.

@@ -3,8 +3,7 @@ use Rattle.std.proofs.Common.{◌≡◌, ◌<◌, ℕ, Bool, true, false, sym, �
 use Rattle.std.specs.Prelude.{◌==◌}
 use Rattle.std.proofs.lemmas.Bool.Decides.{nat_tests}
 use Rattle.list.specs.Reading.{reply_of, refused_line}
-use Rattle.list.proofs.ByLines.{list_long, list_begins, list_ends, line_stops, line_shown, line_passes, reply_whole, shown_whole, reply_passed, text_passed}
-use Rattle.list.proofs.Sets.{record-blank}
+use Rattle.list.proofs.ByLines.{list_ends, line_stops, line_shown, line_passes, reply_passed, text_passed}
 use Rattle.list.proofs.read.Goals as goal
 
 -- what `is_empty` says
@@ -13,15 +12,6 @@ some e h = grind (arith, nat_tests)
 
 none : {b : Bool} {n : ℕ} → b ≡ (n == 0) → b ≡ true → n ≡ 0
 none e h = grind (arith, nat_tests)
-
-pub returns-then-list-gt4096-clause-reply : goal.returns-then-list-gt4096-clause-reply
-returns-then-list-gt4096-clause-reply c = let e = c.into.ensures in reply_whole c.args.list.now c.into.result _ e (list_long c.args.list.now c.if-list-gt4096.true)
-
-pub returns-then-list-gt4096-clause-text : goal.returns-then-list-gt4096-clause-text
-returns-then-list-gt4096-clause-text c = c.into.ensures.text ∙ shown_whole c.args.list.now 1 (list_long c.args.list.now c.if-list-gt4096.true)
-
-pub loop-rest-init : goal.loop-rest-init
-loop-rest-init c = list_begins c.args.list.now c.default-set.result c.if-list-gt4096.false (record-blank c.default-set.result c.default-set.ensures)
 
 pub returns-in-Err-clause-reply : goal.returns-in-Err-clause-reply
 unfolding reply_of refused_line

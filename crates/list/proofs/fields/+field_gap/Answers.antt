@@ -1,14 +1,7 @@
 -- `list::fields::field` and `list::fields::gap` read the fields of the words of what is left of a line. Assumes nothing.
-use Rattle.std.proofs.Common.{◌≡◌, [], ◌∷◌, ◌++◌, get_or, length-append, sym, ◌∙◌, arith}
-use Rattle.list.proofs.Reader.{field_end, field_full, field_put, field_parted, field_bad, field_on, gap_end, gap_bad, gap_on}
+use Rattle.std.proofs.Common.{[], ◌∷◌, ◌++◌, get_or, length-append, sym, ◌∙◌, arith}
+use Rattle.list.proofs.Reader.{field_put, field_parted, field_bad, field_on, gap_on}
 use Rattle.list.proofs.fields.+field_gap.Goals as goal
-
-pub field-returns-in-empty : goal.field-returns-in-empty
-field-returns-in-empty t c = λ ws p e b s. c.with.ensures ∙ field_end _ ws p c.args.digits e b s c.args.line.now c.in-empty.len_below
-
-pub field-returns-in_err-with-in-len1-up : goal.field-returns-in_err-with-in-len1-up
-field-returns-in_err-with-in-len1-up t c = λ ws p e b s.
-    rw c.from_residual.ensures (field_full _ ws p c.args.digits e b s c.args.line.now (sym c.in_err-with-in-len1-up.ensures))
 
 pub field-returns-in_ok-with-in-len1-up : goal.field-returns-in_ok-with-in-len1-up
 field-returns-in_ok-with-in-len1-up t c = λ ws p e b s.
@@ -26,13 +19,6 @@ pub field-returns-in_ok-with-in-len1-up-2 : goal.field-returns-in_ok-with-in-len
 field-returns-in_ok-with-in-len1-up-2 t c = λ ws p e b s.
     let a = c.args in
     c.field.ensures ws (p ++ get_or a.line.now 0 0 ∷ []) e (c.in_ok-with-in-len1-up-2.ensures p b) (omega (arith, length-append p (get_or a.line.now 0 0 ∷ []))) ∙ field_on ws p a.line.now c.in-len1-up.len_at_least
-
-pub gap-returns-in-None : goal.gap-returns-in-None
-gap-returns-in-None t c = λ ws e. e ∙ gap_end ws c.args.line.now (sym c.in-None.ensures)
-
-pub gap-returns-in_err-with-in-Some : goal.gap-returns-in_err-with-in-Some
-gap-returns-in_err-with-in-Some t c = λ ws e.
-    rw c.from_residual.ensures (gap_bad ws c.args.line.now c.in-Some.at (sym c.in-Some.ensures) (c.in_err-with-in-Some.ensures [] c.new.ensures))
 
 pub gap-returns-in_ok-with-in-Some : goal.gap-returns-in_ok-with-in-Some
 gap-returns-in_ok-with-in-Some t c = λ ws e.

@@ -6,8 +6,9 @@ use Rattle.list.proofs.numbers.Digits.with.Goals as goal
 
 pub returns-then-not-is_ascii_digit : goal.returns-then-not-is_ascii_digit
 returns-then-not-is_ascii_digit c = λ p h. elim c.then-not-is_ascii_digit.branch [
-    then-not-is_ascii_digit-via-then-not-is_ascii_digit w ↦ digit_other p c.args.self c.args.b h w.if-not-is_ascii_digit.ensures.cases
-    | then-not-is_ascii_digit-via-else-not-is_ascii_digit+then-self-eq-MOST_DIGITS w ↦ digit_fifth p c.args.self c.args.b h w.if-self-eq-MOST_DIGITS.true ]
+  | then-not-is_ascii_digit-via-then-not-is_ascii_digit w ↦ digit_other p c.args.self c.args.b h w.if-not-is_ascii_digit.ensures.cases
+  | then-not-is_ascii_digit-via-else-not-is_ascii_digit+then-self-eq-MOST_DIGITS w ↦ digit_fifth p c.args.self c.args.b h w.if-self-eq-MOST_DIGITS.true
+]
 
 pub returns : goal.returns
 returns c = λ p h.
