@@ -7,7 +7,7 @@ use Prim.Native.Nat.{ℕ, zero, suc, ◌+◌, ◌≤◌, ◌<◌}
 use native.Mathlib.Omega.{arith}
 use lib.Dec.{T, leb, ltb, eqb, ltb→lt, eqb→eq}
 use lib.ListN.{length, get_or}
-use lib.Seq.{get_or-take, length-take-le}
+use lib.Seq.{length-take-le}
 use borrow.Author.Tests.{lt-ltb}
 use Rattle.rules.specs.Lists.{is_zero}
 use Rattle.rules.specs.Tasks.{Task, no_task, span, place_of, Shape}
@@ -24,7 +24,7 @@ use Rattle.tasks.proofs.Views.{arrays, set-few, set_at}
 use Rattle.player.specs.declared.State.{State}
 use Rattle.player.specs.Turns.{turn_for}
 use Rattle.player.specs.Views.{no_job, job_of, eight, jobs_of, runner_number, state_of}
-use Rattle.player.proofs.Views.{eight-length, eight-at, jobs-length, jobs-at}
+use Rattle.player.proofs.Views.{eight-length, jobs-length, plan-at, job-at}
 
 -- progress 0 stands at the first place of a pattern
 first_place : (ns : List ℕ) → Shape ns → place_of ns 0 ≡ 0
@@ -51,11 +51,11 @@ module _ (st : State) (ok : T (form (state_of st))) where
 
   pub plan-is : (i : ℕ) → i < st.set.count → get_or (in_use (state_of st)).planned i 0 ≡ get_or st.planned i 0
   unfolding in_use state_of record_of
-  plan-is i h = let f = few in get_or-take st.set.count (eight st.planned) i 0 h ∙ eight-at st.planned i 0 (omega arith)
+  plan-is i h = let f = few in plan-at st.planned st.set.count i h (omega arith)
 
   pub job-is : (i : ℕ) → i < st.set.count → get_or (in_use (state_of st)).jobs i finished ≡ job_of (get_or st.jobs i no_job)
   unfolding in_use state_of record_of
-  job-is i h = let f = few in get_or-take st.set.count (jobs_of st.jobs) i finished h ∙ jobs-at st.jobs i finished (omega arith)
+  job-is i h = let f = few in job-at st.jobs st.set.count i finished h (omega arith)
 
   plans-long : length (in_use (state_of st)).planned ≡ length (set_of st.set)
   unfolding in_use state_of record_of

@@ -2,9 +2,10 @@
 use mathlib.Core.Path.{◌≡◌, refl, sym, ap, ◌∙◌}
 use mathlib.Core.List.{List, [], ◌∷◌, map}
 use Prim.Native.Nat.{ℕ, zero, suc, ◌<◌}
+use native.Mathlib.Nat.{zero-add}
 use native.Mathlib.Omega.{arith}
-use lib.ListN.{length, get_or, replicate, length-map, get_or-map}
-use lib.Seq.{ext_get_or}
+use lib.ListN.{length, get_or, take, replicate, length-map, get_or-map}
+use lib.Seq.{ext_get_or, get_or-take}
 use Rattle.std.specs.Prelude.{Result, Ok, Err, IsErrAnd}
 use Rattle.rules.specs.Lists.{tabulate}
 use Rattle.rules.specs.Jobs as model
@@ -17,6 +18,13 @@ pub listed : (l : List ℕ) (n : ℕ) → length l ≡ n → tabulate (λ i. get
 listed l n e =
     let t = tabulate-length (λ i. get_or l i 0) 0 n in
     ext_get_or 0 (tabulate (λ i. get_or l i 0) 0 n) l (omega arith) (λ i h. tabulate-at (λ i. get_or l i 0) 0 n i 0 (omega arith) ∙ ap (λ i. get_or l i 0) (omega arith))
+
+-- a list of which each entry is read through f
+pub mapped : {A B : Type 0} (f : A → B) (l : List A) (d : A) (n : ℕ) → length l ≡ n → tabulate (λ i. f (get_or l i d)) 0 n ≡ map f l
+mapped f l d n e =
+    let t = tabulate-length (λ i. f (get_or l i d)) 0 n in
+    let m = length-map l f in
+    ext_get_or (f d) (tabulate (λ i. f (get_or l i d)) 0 n) (map f l) (omega arith) (λ i h. tabulate-at (λ i. f (get_or l i d)) 0 n i (f d) (omega arith) ∙ rw zero-add (sym (get_or-map f l i d)))
 
 -- ── the arrays ──────────────────────────────────────────────────────────────
 
@@ -48,10 +56,15 @@ unfolding jobs_of job
 jobs-at js i d h = tabulate-at (job js) 0 8 i d h ∙ ap (job js) (omega arith)
 
 pub jobs-map : (js : List Job) → length js ≡ 8 → jobs_of js ≡ map job_of js
-jobs-map js e =
-    let l = jobs-length js in
-    let m = length-map js job_of in
-    ext_get_or (job_of no_job) (jobs_of js) (map job_of js) (omega arith) (λ i h. jobs-at js i (job_of no_job) (omega arith) ∙ sym (get_or-map job_of js i no_job))
+unfolding jobs_of
+jobs-map js e = mapped job_of js no_job 8 e
+
+-- those of the first n tasks
+pub plan-at : (p : List ℕ) (n i : ℕ) → i < n → i < 8 → get_or (take n (eight p)) i 0 ≡ get_or p i 0
+plan-at p n i h k = get_or-take n (eight p) i 0 h ∙ eight-at p i 0 k
+
+pub job-at : (js : List Job) (n i : ℕ) (d : model.Job) → i < n → i < 8 → get_or (take n (jobs_of js)) i d ≡ job_of (get_or js i no_job)
+job-at js n i d h k = get_or-take n (jobs_of js) i d h ∙ jobs-at js i d k
 
 pub map-replicate : {A B : Type 0} (f : A → B) (n : ℕ) (x : A) → map f (replicate n x) ≡ replicate n (f x)
 map-replicate f zero x = refl
