@@ -57,15 +57,15 @@ impl Timed {
         ensures { standing_of result ≡ standing (timed_task self.now) progress }
     {
         let mut left = progress;
-        let mut inside = Standing::Ready;
-        let mut next = Standing::Waiting;
-        for &entry in &self.pattern[..self.entries] {
-            let units = u16::from(entry);
+        for (i, entry) in self.pattern[..self.entries].iter().enumerate() {
+            let units = u16::from(*entry);
             if left < units {
-                return inside;
+                if i % 2 == 0 {
+                    return Standing::Ready;
+                }
+                return Standing::Waiting;
             }
             left -= units;
-            (inside, next) = (next, inside);
         }
         Standing::Done
     }
