@@ -110,22 +110,21 @@ pub(crate) fn look_ahead(rows: &[Timed; 8], n: usize, slot: u16, progress: &[u16
     ensures { Ahead (row_tasks n rows.now) slot (take n progress.now) result.waits (urgent_of result.urgent) result.stay (map one_more result.go) }
 {
     let mut waits: u16 = 0;
-    let mut urgent = Urgent::Nobody;
-    let mut stay = [0; 8];
-    let mut go = [None; 8];
+    let mut ahead = Outlook {
+        waits: 0,
+        urgent: Urgent::Nobody,
+        stay: [0; 8],
+        go: [None; 8],
+    };
     for i in (0..n).rev() {
         let way = ways_of(&rows[i], slot, progress[i]);
-        stay[i] = way.stay;
-        go[i] = way.go;
+        ahead.stay[i] = way.stay;
+        ahead.go[i] = way.go;
         waits = waits * 2 + way.rises as u16;
-        urgent = claim_of(urgent, way.well, i as u8);
+        ahead.urgent = claim_of(ahead.urgent, way.well, i as u8);
     }
-    Outlook {
-        waits: waits as u8,
-        urgent,
-        stay,
-        go,
-    }
+    ahead.waits = waits as u8;
+    ahead
 }
 
 // The bit of a task in a mark.

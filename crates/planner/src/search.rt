@@ -97,8 +97,8 @@ fn lead_on(
 {
     let slot = at.slot;
     let recorded = at.recorded;
-    let ahead = look_ahead(rows, n, slot, &at.progress);
-    let mut stay = ahead.stay;
+    let progress = at.progress;
+    let mut ahead = look_ahead(rows, n, slot, &progress);
     let task = first_task(
         n,
         choice,
@@ -106,18 +106,19 @@ fn lead_on(
         slot + 1,
         recorded,
         &ahead.go,
-        &mut stay,
+        &mut ahead.stay,
         area,
     );
     let mark = match task {
         Some(c) => ahead.waits + bit_of(c),
-        None if ahead.urgent.is_nobody() && !seen(area, recorded, n, slot + 1, &stay) => ahead.waits,
+        None if ahead.urgent.is_nobody() && !seen(area, recorded, n, slot + 1, &ahead.stay) => ahead.waits,
         None => return Search { choice: None, ..at },
     };
     table[slot as usize] = mark;
+    let progress = ahead.stay;
     Search {
         slot: slot + 1,
-        progress: stay,
+        progress,
         choice: Some(Choice::Task(0)),
         recorded,
     }

@@ -1,12 +1,12 @@
 -- Laws of a timed task: where progress stands, entry by entry, and what its length says of laxity.
 use mathlib.Core.Path.{◌≡◌, refl, sym, ap, ◌∙◌}
-use mathlib.Core.Bool.{Bool, true, false, not, cond, ◌&&◌, ◌||◌, and-true}
+use mathlib.Core.Bool.{Bool, true, false, not, cond, ◌&&◌, ◌||◌, and-true, and-false}
 use mathlib.Core.List.{List}
 use Prim.Native.Nat.{ℕ, suc, ◌+◌, ◌-◌, ◌%◌, ◌≤◌, ◌<◌}
 use native.Mathlib.Nat.{mod-zero, mod-eq_of_lt}
 use native.Mathlib.Numerals.{add-one}
 use native.Mathlib.Omega.{arith}
-use borrow.Author.Tests.{eqb-true, eqb-false, eq-eqb, ne_eqb, not-true, not-false, lt-ltb, le-ltb, le-leb, lt-leb}
+use borrow.Author.Tests.{eqb-true, eqb-false, eq-eqb, ne_eqb, lt-ltb, le-ltb, le-leb, lt-leb}
 use lib.IntN.{ℤ, pos}
 use mathlib.Core.Logic.{◌⊎◌, inl, inr}
 use Rattle.rules.proofs.Laws.{le-or-lt}
@@ -107,35 +107,24 @@ module _ (t : code.Task) (n : ℕ) (seven : length t.pattern ≡ 7) (many : n �
 
 -- ── the end of a slot ───────────────────────────────────────────────────────
 
-period-is : (t : Timed) → (timed_task t).period ≡ t.period
-unfolding timed_task
-period-is t = refl
-
-module _ (t : Timed) (since p : ℕ) (w : Bool) (timely : w ≡ in_time since (timed_task t) p) where
-  pub well-late : not w ≡ true → false ≡ well_at since (timed_task t) p
-  unfolding well_at
-  well-late h = rw (← timely, not-true w h)
-
+module _ (t : Timed) (since p : ℕ) (r : Bool) (again : r ≡ eqb since (timed_task t).period) where
   -- its job goes on
-  pub well-on : not w ≡ false → (q : ℕ) → q ≡ t.period → (since ≡ q → ⊥) → not (eqb since q) ≡ well_at since (timed_task t) p
+  pub well-amid : r ≡ false → (w : Bool) → w ≡ in_time since (timed_task t) p → w ≡ well_at since (timed_task t) p
   unfolding well_at
-  well-on h q e n = let k : eqb since (timed_task t).period ≡ false = ne_eqb since (timed_task t).period (λ z. n (z ∙ period-is t ∙ sym e)) in rw (← timely, not-false w h, k, ne_eqb since q n)
+  well-amid h w e = rw (← again, h, ← e) (sym (and-true w))
 
   -- its job starts again, and was not done
-  pub well-undone : not w ≡ false → (q : ℕ) → q ≡ t.period → since ≡ q → p < t.length → leb t.length p ≡ well_at since (timed_task t) p
+  pub well-undone : r ≡ true → p < t.length → leb t.length p ≡ well_at since (timed_task t) p
   unfolding well_at
-  well-undone h q e f l =
-      let k = eq-eqb since (timed_task t).period (f ∙ e ∙ sym (period-is t)) in
-      rw (← timely, not-false w h, k, undone-till (timed_task t) t.length p (whole-is t) l) (lt-leb t.length p l)
+  well-undone h l =
+      rw (← again, h, undone-till (timed_task t) t.length p (whole-is t) l) (lt-leb t.length p l ∙ sym (and-false (in_time since (timed_task t) p)))
 
   -- it was done
-  pub well-again : not w ≡ false → (q : ℕ) → q ≡ t.period → since ≡ q → t.length ≤ p → (r : Bool) → r ≡ in_time 0 (timed_task t) 0 → r ≡ well_at since (timed_task t) p
+  pub well-again : r ≡ true → t.length ≤ p → (w : Bool) → w ≡ in_time 0 (timed_task t) 0 → w ≡ well_at since (timed_task t) p
   unfolding well_at
-  well-again h q e f l r k =
-      let m = eq-eqb since (timed_task t).period (f ∙ e ∙ sym (period-is t)) in
-      rw (← timely, not-false w h, m, done-from (timed_task t) t.length p (whole-is t) l) k
+  well-again h l w e = rw (← again, h, done-from (timed_task t) t.length p (whole-is t) l, ← in-time-done (timed_task t) t.length p (whole-is t) since l) e
 
-pub ruleset wells = (well-late, well-on, well-undone, well-again)
+pub ruleset wells = (well-amid, well-undone, well-again)
 
 -- at the end of a slot of any period, 0 too
 module _ (t : ℕ) (τ : Task) (p : ℕ) where
