@@ -98,27 +98,28 @@ fn lead_on(
     let slot = at.slot;
     let recorded = at.recorded;
     let progress = at.progress;
-    let mut ahead = look_ahead(rows, n, slot, &progress);
+    let mut stay = [0; 8];
+    let mut go = [None; 8];
+    let ahead = look_ahead(rows, n, slot, &progress, &mut stay, &mut go);
     let task = first_task(
         n,
         choice,
         ahead.urgent,
         slot + 1,
         recorded,
-        &ahead.go,
-        &mut ahead.stay,
+        &go,
+        &mut stay,
         area,
     );
     let mark = match task {
         Some(c) => ahead.waits + bit_of(c),
-        None if ahead.urgent.is_nobody() && !seen(area, recorded, n, slot + 1, &ahead.stay) => ahead.waits,
+        None if ahead.urgent.is_nobody() && !seen(area, recorded, n, slot + 1, &stay) => ahead.waits,
         None => return Search { choice: None, ..at },
     };
     table[slot as usize] = mark;
-    let progress = ahead.stay;
     Search {
         slot: slot + 1,
-        progress,
+        progress: stay,
         choice: Some(Choice::Task(0)),
         recorded,
     }

@@ -7,7 +7,7 @@ pub loop-i-init : goal.loop-i-init
 loop-i-init c = search (rules, looked-start)
 
 pub loop-i-preserved : goal.loop-i-preserved
-loop-i-preserved c = looked-step _ _ _ _ _ _ _ _ _ c.loop-i.invariant c.loop-i-test.true _ _ _ _ _ c.ways_of-way.ensures _ c.claim_of-ahead.ensures
+loop-i-preserved c = looked-step _ _ _ _ _ _ _ _ _ c.loop-i.invariant c.loop-i-test.true _ _ _ _ _ c.ways_of-way.ensures _ c.claim_of-urgent.ensures
 
 pub returns : goal.returns
 returns c = looked-end _ _ _ _ _ _ _ _ _ c.loop-i.invariant c.loop-i-test.false
