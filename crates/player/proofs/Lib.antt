@@ -13,3 +13,4 @@ pub mod Inverse
 pub mod Pieces
 pub mod Defaults
 pub mod Carried
+pub mod Calls
