@@ -14,3 +14,4 @@ pub mod Pieces
 pub mod Defaults
 pub mod Carried
 pub mod Calls
+pub mod Promises
