@@ -23,6 +23,7 @@ pub extern "C" fn kiluvsaat_start(set: &[u8], table: &[u8], state: &mut [u8]) ->
 
 // A tick: the refusal in the high byte and the runner in the low byte. The new state is put at the start of `next`, and a fault byte for
 // each task at the start of `faults`.
+#[tactic(auto, unfolding(rules::specs::Positions::idle))]
 #[unsafe(no_mangle)]
 pub extern "C" fn kiluvsaat_tick(
     state: &[u8],
