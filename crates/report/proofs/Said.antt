@@ -2,33 +2,24 @@
 use mathlib.Core.Path.{◌≡◌, refl, sym, ap, ◌∙◌}
 use mathlib.Core.Logic.{◌↔◌}
 use mathlib.Core.Bool.{Bool, true, false, cond}
-use mathlib.Core.List.{List, [], ◌∷◌, ◌++◌}
+use mathlib.Core.List.{List, [], ◌++◌}
 use Prim.Native.Nat.{ℕ, ◌≤◌}
 use native.Mathlib.Omega.{arith}
 use borrow.Author.Tests.{eq-eqb, ne_eqb, eqb-true}
 use lib.Dec.{eqb}
-use lib.ListN.{length, take, length-append}
+use lib.ListN.{length, length-append}
 use Rattle.rules.specs.Lists.{is_zero}
 use Rattle.list.specs.Reading.{read_list, reply_of, shown}
 use Rattle.list.specs.declared.Reading.{Reading}
-use Rattle.report.specs.Texts.{decimal}
-use Rattle.report.specs.Put.{Put, PutCut}
+use Rattle.report.specs.Put.{PutCut}
 use Rattle.report.specs.Help.{too_long, misformed, out_of_range, late, miscounted, too_high, sentence, place, explained, explanation}
-use Rattle.report.proofs.Put.{put-taken, cut-more, cut-none}
+use Rattle.report.proofs.Put.{cut-more, cut-none}
 
 -- ── the sentence ────────────────────────────────────────────────────────────
 
 pub sentence-last : (n : ℕ) → (n ≡ 1 → ⊥) → (n ≡ 2 → ⊥) → (n ≡ 3 → ⊥) → (n ≡ 4 → ⊥) → (n ≡ 5 → ⊥) → sentence n ≡ too_high
 unfolding sentence
 sentence-last n a b c d e = rw (ne_eqb n 1 a, ne_eqb n 2 b, ne_eqb n 3 c, ne_eqb n 4 d, ne_eqb n 5 e)
-
--- ── the line ────────────────────────────────────────────────────────────────
-
-pub place-text : {o : List ℕ} {at : ℕ} (n : ℕ) (line : List ℕ) {z d : List ℕ} {m : ℕ} {e f g h r : ℕ} {p q s t u : List ℕ} → Put z 0 (decimal n) m d
-    → PutCut o at (76 ∷ 105 ∷ 110 ∷ 101 ∷ 32 ∷ []) e p → PutCut p e (take m d) f q → PutCut q f (58 ∷ 32 ∷ []) g s → PutCut s g line h t → PutCut t h (10 ∷ []) r u
-    → PutCut o at (place n line) r u
-unfolding place
-place-text n line D A B C E F = cut-more _ _ (cut-more _ _ (cut-more _ _ (cut-more _ _ A (rw (put-taken D) at B)) C) E) F
 
 -- ── the whole ───────────────────────────────────────────────────────────────
 
@@ -43,7 +34,7 @@ module _ (bs : List ℕ) (x : Reading) (e : reply_of x ≡ read_list bs) where
 
   pub explain-none : (o : List ℕ) → x.refusal ≡ 0 → PutCut o 0 (explanation bs) 0 o
   unfolding explanation explained is_zero
-  explain-none o h = rw (eq-eqb (read_list bs).refusal 0 (is-refusal ∙ h)) (cut-none o)
+  explain-none o h = rw (eq-eqb (read_list bs).refusal 0 (is-refusal ∙ h)) (cut-none o 0 (omega arith))
 
   module _ {o : List ℕ} {r : ℕ} {p : List ℕ} (h : x.refusal ≡ 0 → ⊥) (P : PutCut o 0 (sentence x.refusal) r p) where
     refused : eqb (read_list bs).refusal 0 ≡ false

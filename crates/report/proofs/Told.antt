@@ -4,8 +4,10 @@ use mathlib.Core.Logic.{◌⊎◌, inl, inr}
 use mathlib.Core.List.{List, [], ◌∷◌, ◌++◌}
 use Prim.Native.Nat.{ℕ, ◌≤◌, ◌<◌}
 use native.Mathlib.Omega.{arith}
-use lib.ListN.{length, take, length-append}
+use lib.ListN.{length, take, length-append, length-take}
 use lib.Seq.{length-take-le, get_or-take}
+use Rattle.std.specs.Prelude.{All}
+use Rattle.std.proofs.lemmas.List.Elements.{All-from_get_or}
 use Rattle.rules.specs.Hyper.{hyper}
 use Rattle.rules.specs.Records.{set_in}
 use Rattle.rules.specs.Planner.{Word, schedule, infeasible, out_of_room, Answer, refused, answered, PlanReply}
@@ -17,10 +19,10 @@ use Rattle.list.specs.declared.Reading.{Reading}
 use Rattle.list.specs.Replies.{Admissible}
 use Rattle.list.proofs.Promises.{read-admissible}
 use Rattle.report.specs.Texts.{decimal, one_number, two_numbers, schedule_word, infeasible_word, out_of_room_word, refused_word, slot_lines, word_text, refused_text, program_table, Writes}
-use Rattle.report.specs.Put.{Put, Showable}
+use Rattle.report.specs.Put.{PutCut, Choice, fields}
 use Rattle.report.specs.Reports.{answer_text, Tellable, Told, Untouched, Reported}
-use Rattle.report.proofs.Put.{put-none, put-more, put-length}
-use Rattle.report.proofs.Numbers.{decimal-length}
+use Rattle.report.proofs.Put.{cut-more, cut-none, cut-whole}
+use Rattle.report.proofs.Numbers.{decimal-length, one-line, two-line}
 use Rattle.report.proofs.Slots.{lines-length}
 use Rattle.report.proofs.Reply.{same_text, answers, tellable}
 
@@ -36,31 +38,49 @@ first-length h n =
     let s = length-append schedule_word (32 ∷ decimal h) in
     omega arith
 
--- 4,096 slots in 64 lines: the longest text has room
-pub showable : (h n : ℕ) (a : Answer) (table out : List ℕ) {e : ℕ} {p : List ℕ} → Tellable h a table out → a ≡ answered schedule n → Put out 0 (two_numbers schedule_word h n) e p
-    → Showable (take h table) p e
-showable h n a table out {e = e} {p = p} L q P =
+-- 4,096 slots in 64 lines: 4,300 bytes hold any text
+pub answer-length : (h : ℕ) (a : Answer) (table : List ℕ) → h ≤ 4096 → length (answer_text h a table) ≤ 4300
+unfolding answer_text word_text one_number infeasible_word out_of_room_word
+answer-length h (refused m) table w = omega arith
+answer-length h (answered schedule n) table w =
+    let f = first-length h n in let m = lines-length 0 (take h table) (omega arith) in let t = length-take {A = ℕ} h table in
+    let l = length-append (two_numbers schedule_word h n) (slot_lines 0 (take h table)) in
+    omega arith
+answer-length h (answered infeasible n) table w =
+    let d = decimal-length n in let l = length-append (infeasible_word ++ (32 ∷ decimal n)) (10 ∷ []) in let m = length-append infeasible_word (32 ∷ decimal n) in omega arith
+answer-length h (answered out_of_room n) table w =
+    let d = decimal-length n in let l = length-append (out_of_room_word ++ (32 ∷ decimal n)) (10 ∷ []) in let m = length-append out_of_room_word (32 ∷ decimal n) in omega arith
+
+refused-length : (n line : ℕ) → length (two_numbers refused_word n line) ≤ 4300
+unfolding two_numbers refused_word
+refused-length n line =
+    let a = decimal-length n in let b = decimal-length line in
+    let p = length-append (refused_word ++ (32 ∷ decimal n) ++ (32 ∷ decimal line)) (10 ∷ []) in
+    let q = length-append (refused_word ++ (32 ∷ decimal n)) (32 ∷ decimal line) in
+    let s = length-append refused_word (32 ∷ decimal n) in
+    omega arith
+
+pub slots-shown : (h n : ℕ) (a : Answer) (table : List ℕ) → Tellable h a table → a ≡ answered schedule n → All Choice (take h table)
+slots-shown h n a table L q =
     let t = length-take-le h table L.slots in
-    let m = lines-length 0 (take h table) (omega arith) in
-    let f = first-length h n in let b = P.behind in let l = put-length P in let w = L.few in let r = L.room in
-    record { choices = λ k i. rw (get_or-take h table k 0 (omega arith)) (L.choices n q k (omega arith)); room = omega arith }
+    All-from_get_or Choice (take h table) 0 (λ k i. rw (get_or-take h table k 0 (omega arith)) (L.choices n q k (omega arith)))
 
-pub answer-refused : (h m : ℕ) (table out : List ℕ) → Put out 0 (answer_text h (refused m) table) 0 out
-unfolding answer_text
-answer-refused h m table out = put-none out 0 (omega arith)
+module _ {o : List ℕ} {at : ℕ} (h n : ℕ) (table : List ℕ) where
+  pub answer-refused : at ≤ length o → PutCut o at (answer_text h (refused n) table) at o
+  unfolding answer_text
+  answer-refused k = cut-none o at k
 
-pub answer-schedule : {out : List ℕ} (h n : ℕ) (table : List ℕ) {e : ℕ} {p : List ℕ} {r : ℕ} {q : List ℕ} → Put out 0 (two_numbers schedule_word h n) e p → Put p e (slot_lines 0 (take h table)) r q
-    → Put out 0 (answer_text h (answered schedule n) table) r q
-unfolding answer_text word_text
-answer-schedule h n table P Q = put-more P Q
+  pub answer-schedule : {e : ℕ} {p : List ℕ} {r : ℕ} {q : List ℕ} → PutCut o at (schedule_word ++ fields (h ∷ n ∷ []) ++ 10 ∷ []) e p → PutCut p e (slot_lines 0 (take h table)) r q → PutCut o at (answer_text h (answered schedule n) table) r q
+  unfolding answer_text word_text
+  answer-schedule P Q = cut-more _ _ (rw (two-line schedule_word h n) at P) Q
 
-pub answer-infeasible : {out : List ℕ} (h n : ℕ) (table : List ℕ) {r : ℕ} {p : List ℕ} → Put out 0 (one_number infeasible_word n) r p → Put out 0 (answer_text h (answered infeasible n) table) r p
-unfolding answer_text word_text
-answer-infeasible h n table P = P
+  pub answer-infeasible : {r : ℕ} {p : List ℕ} → PutCut o at (infeasible_word ++ fields (n ∷ []) ++ 10 ∷ []) r p → PutCut o at (answer_text h (answered infeasible n) table) r p
+  unfolding answer_text word_text
+  answer-infeasible P = rw (one-line infeasible_word n) at P
 
-pub answer-room : {out : List ℕ} (h n : ℕ) (table : List ℕ) {r : ℕ} {p : List ℕ} → Put out 0 (one_number out_of_room_word n) r p → Put out 0 (answer_text h (answered out_of_room n) table) r p
-unfolding answer_text word_text
-answer-room h n table P = P
+  pub answer-room : {r : ℕ} {p : List ℕ} → PutCut o at (out_of_room_word ++ fields (n ∷ []) ++ 10 ∷ []) r p → PutCut o at (answer_text h (answered out_of_room n) table) r p
+  unfolding answer_text word_text
+  answer-room P = rw (one-line out_of_room_word n) at P
 
 -- ── too little lent ─────────────────────────────────────────────────────────
 
@@ -95,12 +115,12 @@ module _ (list : List ℕ) (x : Reading) (e : reply_of x ≡ read_list list) (ta
   unfolding reply_of
   is_set = ap (λ y. y.set) e
 
-  pub refused-told : {r : ℕ} {p : List ℕ} → (x.refusal ≡ 0 → ⊥) → Put out 0 (two_numbers refused_word x.refusal x.line) r p → Reported list table area out r table area p
+  pub refused-told : {r : ℕ} {p : List ℕ} → (x.refusal ≡ 0 → ⊥) → PutCut out 0 (refused_word ++ fields (x.refusal ∷ x.line ∷ []) ++ 10 ∷ []) r p → Reported list table area out r table area p
   unfolding refused_text
   refused-told h P = told record {
     text = two_numbers refused_word x.refusal x.line;
     writes = record { refuses = λ n q. rw (is-refusal, is-line, q) refl; plans = λ q _. absurd (h (is-refusal ∙ q)) };
-    put = P;
+    put = cut-whole (let l = refused-length x.refusal x.line in omega arith) (rw (two-line refused_word x.refusal x.line) at P);
     refuses = λ n q. (refl, refl);
     plans = λ q. absurd (h (is-refusal ∙ q));
   }
@@ -109,14 +129,18 @@ module _ (list : List ℕ) (x : Reading) (e : reply_of x ≡ read_list list) (ta
     admissible : Admissible (record_of x.set)
     admissible = rw is_set (read-admissible list (sym is-refusal ∙ ok))
 
+    -- the planner refuses no set that is read
+    pub never-refused : {a : Answer} {t u : List ℕ} → PlanReply (record_of x.set) table area a t u → (m : ℕ) → a ≡ refused m → ⊥
+    never-refused {a = a} R m q = let A = answers (record_of x.set) admissible.arrays admissible.fine table area long R in let e : refused m ≡ answered A.0 A.1 = sym q ∙ A.2 in cc
+
     module _ (k : ℕ) (hk : k ≡ bounded (hyper (set_of x.set))) where
       is-hyper : k ≡ hyper (set_in (record_of x.set))
       unfolding set_of
       is-hyper = hk ∙ hyper-whole x.set admissible.fine
 
       module _ {a : Answer} {t u : List ℕ} (R : PlanReply (record_of x.set) table area a t u) where
-        pub planned-tellable : Tellable k a t out
-        planned-tellable = rw is-hyper (tellable (record_of x.set) admissible.arrays admissible.fine table area long out R room)
+        pub planned-tellable : Tellable k a t
+        planned-tellable = rw is-hyper (tellable (record_of x.set) admissible.arrays admissible.fine table area long R)
 
         writes-it : (w : Word) (n : ℕ) → a ≡ answered w n → Writes list area (answer_text k a t)
         unfolding answer_text
@@ -128,13 +152,13 @@ module _ (list : List ℕ) (x : Reading) (e : reply_of x ≡ read_list list) (ta
                 let G = same_text (record_of x.set) table program_table area (rw q at R) (rw (← is_set) at P) in
                 rw (q, is-hyper, G.word, G.count, G.slots, is_set) refl
 
-        pub planned-told : {r : ℕ} {p : List ℕ} → Put out 0 (answer_text k a t) r p → Reported list table area out r t u p
+        pub planned-told : {r : ℕ} {p : List ℕ} → PutCut out 0 (answer_text k a t) r p → Reported list table area out r t u p
         planned-told P =
             let A = answers (record_of x.set) admissible.arrays admissible.fine table area long R in
             told record {
               text = answer_text k a t;
               writes = writes-it A.0 A.1 A.2;
-              put = P;
+              put = cut-whole (let l = answer-length k a t planned-tellable.few in omega arith) P;
               refuses = λ n q. clash n (sym q ∙ sym is-refusal ∙ ok);
               plans = λ _. (A.0, A.1, rw (← is_set, ← A.2) R);
             }
