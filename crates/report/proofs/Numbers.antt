@@ -81,3 +81,16 @@ one-line word n = rw (fields-one n) refl
 pub two-line : (word : List ℕ) (a b : ℕ) → word ++ fields (a ∷ b ∷ []) ++ 10 ∷ [] ≡ two_numbers word a b
 unfolding two_numbers
 two-line word a b = rw (fields-append (a ∷ []) (b ∷ []), fields-one a, fields-one b, append_assoc word (32 ∷ decimal a) (32 ∷ decimal b)) refl
+
+pub one-length : (word : List ℕ) (n : ℕ) → length (one_number word n) ≤ length word + 22
+unfolding one_number
+one-length word n = let d = decimal-length n in let l = length-append (word ++ (32 ∷ decimal n)) (10 ∷ []) in let m = length-append word (32 ∷ decimal n) in omega arith
+
+pub two-length : (word : List ℕ) (a b : ℕ) → length (two_numbers word a b) ≤ length word + 43
+unfolding two_numbers
+two-length word a b =
+    let d = decimal-length a in let e = decimal-length b in
+    let l = length-append (word ++ (32 ∷ decimal a) ++ (32 ∷ decimal b)) (10 ∷ []) in
+    let m = length-append (word ++ (32 ∷ decimal a)) (32 ∷ decimal b) in
+    let n = length-append word (32 ∷ decimal a) in
+    omega arith

@@ -30,7 +30,7 @@ module _ {o : List ℕ} {at : ℕ} {xs : List ℕ} {r : ℕ} {p : List ℕ} (P :
   pub put-fits : r ≤ length p
   put-fits = let w = P.within in let l = put-length in omega arith
 
-  put-taken : take r p ≡ take at o ++ xs
+  pub put-taken : take r p ≡ take at o ++ xs
   put-taken = rw P.text (take_at (take at o ++ xs) (drop (at + length xs) o) r put_front)
 
   put-kept : (m : ℕ) → drop (r + m) p ≡ drop (r + m) o

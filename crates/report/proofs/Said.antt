@@ -2,18 +2,20 @@
 use mathlib.Core.Path.{◌≡◌, refl, sym, ap, ◌∙◌}
 use mathlib.Core.Logic.{◌↔◌}
 use mathlib.Core.Bool.{Bool, true, false, cond}
-use mathlib.Core.List.{List, [], ◌++◌}
-use Prim.Native.Nat.{ℕ, ◌≤◌}
+use mathlib.Core.List.{List, [], ◌∷◌, ◌++◌}
+use Prim.Native.Nat.{ℕ, ◌+◌, ◌≤◌}
 use native.Mathlib.Omega.{arith}
 use borrow.Author.Tests.{eq-eqb, ne_eqb, eqb-true}
 use lib.Dec.{eqb}
-use lib.ListN.{length, length-append}
+use lib.ListN.{length, take, drop, length-append, length-take, length-drop}
 use Rattle.rules.specs.Lists.{is_zero}
 use Rattle.list.specs.Reading.{read_list, reply_of, shown}
 use Rattle.list.specs.declared.Reading.{Reading}
+use Rattle.report.specs.Texts.{decimal}
 use Rattle.report.specs.Put.{PutCut}
 use Rattle.report.specs.Help.{too_long, misformed, out_of_range, late, miscounted, too_high, sentence, place, explained, explanation}
 use Rattle.report.proofs.Put.{cut-more, cut-none}
+use Rattle.report.proofs.Numbers.{decimal-length}
 
 -- ── the sentence ────────────────────────────────────────────────────────────
 
@@ -74,3 +76,42 @@ silent bs = (λ h. quiet (eqb (read_list bs).refusal 0) refl (eqb (read_list bs)
         let s = sentence-some (read_list bs).refusal in
         let l = length-append (sentence (read_list bs).refusal) (place (read_list bs).line (shown bs (read_list bs))) in
         absurd (omega arith)
+
+-- ── how long it is ──────────────────────────────────────────────────────────
+
+sentence-few : (n : ℕ) → length (sentence n) ≤ 131
+unfolding sentence too_long misformed out_of_range late miscounted too_high
+sentence-few n = go (eqb n 1) (eqb n 2) (eqb n 3) (eqb n 4) (eqb n 5)
+  where
+    go : (a b c d e : Bool) → length (cond a too_long (cond b misformed (cond c out_of_range (cond d late (cond e miscounted too_high))))) ≤ 131
+    go true b c d e = omega arith
+    go false true c d e = omega arith
+    go false false true d e = omega arith
+    go false false false true e = omega arith
+    go false false false false true = omega arith
+    go false false false false false = omega arith
+
+place-few : (n : ℕ) (line : List ℕ) → length (place n line) ≤ length line + 28
+unfolding place
+place-few n line =
+    let d = decimal-length n in
+    let a = length-append ((76 ∷ 105 ∷ 110 ∷ 101 ∷ 32 ∷ []) ++ decimal n ++ (58 ∷ 32 ∷ []) ++ line) (10 ∷ []) in
+    let b = length-append ((76 ∷ 105 ∷ 110 ∷ 101 ∷ 32 ∷ []) ++ decimal n ++ (58 ∷ 32 ∷ [])) line in
+    let c = length-append ((76 ∷ 105 ∷ 110 ∷ 101 ∷ 32 ∷ []) ++ decimal n) (58 ∷ 32 ∷ []) in
+    let e = length-append (76 ∷ 105 ∷ 110 ∷ 101 ∷ 32 ∷ []) (decimal n) in
+    omega arith
+
+pub explanation-length : (bs : List ℕ) → length bs ≤ 4097 → length (explanation bs) ≤ 4300
+unfolding explanation explained shown
+explanation-length bs h = go (is_zero (read_list bs).refusal) (is_zero (read_list bs).line)
+  where
+    go : (b c : Bool) → length (cond b [] (cond c (sentence (read_list bs).refusal) (sentence (read_list bs).refusal ++ place (read_list bs).line (take (read_list bs).size (drop (read_list bs).start bs))))) ≤ 4300
+    go true c = omega arith
+    go false true = let s = sentence-few (read_list bs).refusal in omega arith
+    go false false =
+        let s = sentence-few (read_list bs).refusal in
+        let p = place-few (read_list bs).line (take (read_list bs).size (drop (read_list bs).start bs)) in
+        let t = length-take {A = ℕ} (read_list bs).size (drop (read_list bs).start bs) in
+        let d = length-drop (read_list bs).start bs in
+        let l = length-append (sentence (read_list bs).refusal) (place (read_list bs).line (take (read_list bs).size (drop (read_list bs).start bs))) in
+        omega arith

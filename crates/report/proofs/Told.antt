@@ -18,47 +18,30 @@ use Rattle.list.specs.Reading.{read_list, reply_of}
 use Rattle.list.specs.declared.Reading.{Reading}
 use Rattle.list.specs.Replies.{Admissible}
 use Rattle.list.proofs.Promises.{read-admissible}
-use Rattle.report.specs.Texts.{decimal, one_number, two_numbers, schedule_word, infeasible_word, out_of_room_word, refused_word, slot_lines, word_text, refused_text, program_table, Writes}
+use Rattle.report.specs.Texts.{two_numbers, schedule_word, infeasible_word, out_of_room_word, refused_word, slot_lines, word_text, refused_text, program_table, Writes}
 use Rattle.report.specs.Put.{PutCut, Choice, fields}
 use Rattle.report.specs.Reports.{answer_text, Tellable, Told, Untouched, Reported}
-use Rattle.report.proofs.Put.{cut-more, cut-none, cut-whole}
-use Rattle.report.proofs.Numbers.{decimal-length, one-line, two-line}
+use Rattle.report.proofs.Put.{cut-more, cut-whole}
+use Rattle.report.proofs.Numbers.{one-line, two-line, one-length, two-length}
 use Rattle.report.proofs.Slots.{lines-length}
 use Rattle.report.proofs.Reply.{same_text, answers, tellable}
 
 -- ── the text of an answer ───────────────────────────────────────────────────
 
--- a first line of at most 51 bytes
-pub first-length : (h n : ℕ) → length (two_numbers schedule_word h n) ≤ 51
-unfolding two_numbers schedule_word
-first-length h n =
-    let a = decimal-length h in let b = decimal-length n in
-    let p = length-append (schedule_word ++ (32 ∷ decimal h) ++ (32 ∷ decimal n)) (10 ∷ []) in
-    let q = length-append (schedule_word ++ (32 ∷ decimal h)) (32 ∷ decimal n) in
-    let s = length-append schedule_word (32 ∷ decimal h) in
-    omega arith
-
 -- 4,096 slots in 64 lines: 4,300 bytes hold any text
-pub answer-length : (h : ℕ) (a : Answer) (table : List ℕ) → h ≤ 4096 → length (answer_text h a table) ≤ 4300
-unfolding answer_text word_text one_number infeasible_word out_of_room_word
+answer-length : (h : ℕ) (a : Answer) (table : List ℕ) → h ≤ 4096 → length (answer_text h a table) ≤ 4300
+unfolding answer_text word_text schedule_word infeasible_word out_of_room_word
 answer-length h (refused m) table w = omega arith
 answer-length h (answered schedule n) table w =
-    let f = first-length h n in let m = lines-length 0 (take h table) (omega arith) in let t = length-take {A = ℕ} h table in
+    let f = two-length schedule_word h n in let m = lines-length 0 (take h table) (omega arith) in let t = length-take {A = ℕ} h table in
     let l = length-append (two_numbers schedule_word h n) (slot_lines 0 (take h table)) in
     omega arith
-answer-length h (answered infeasible n) table w =
-    let d = decimal-length n in let l = length-append (infeasible_word ++ (32 ∷ decimal n)) (10 ∷ []) in let m = length-append infeasible_word (32 ∷ decimal n) in omega arith
-answer-length h (answered out_of_room n) table w =
-    let d = decimal-length n in let l = length-append (out_of_room_word ++ (32 ∷ decimal n)) (10 ∷ []) in let m = length-append out_of_room_word (32 ∷ decimal n) in omega arith
+answer-length h (answered infeasible n) table w = let f = one-length infeasible_word n in omega arith
+answer-length h (answered out_of_room n) table w = let f = one-length out_of_room_word n in omega arith
 
 refused-length : (n line : ℕ) → length (two_numbers refused_word n line) ≤ 4300
-unfolding two_numbers refused_word
-refused-length n line =
-    let a = decimal-length n in let b = decimal-length line in
-    let p = length-append (refused_word ++ (32 ∷ decimal n) ++ (32 ∷ decimal line)) (10 ∷ []) in
-    let q = length-append (refused_word ++ (32 ∷ decimal n)) (32 ∷ decimal line) in
-    let s = length-append refused_word (32 ∷ decimal n) in
-    omega arith
+unfolding refused_word
+refused-length n line = let f = two-length refused_word n line in omega arith
 
 pub slots-shown : (h n : ℕ) (a : Answer) (table : List ℕ) → Tellable h a table → a ≡ answered schedule n → All Choice (take h table)
 slots-shown h n a table L q =
@@ -66,10 +49,6 @@ slots-shown h n a table L q =
     All-from_get_or Choice (take h table) 0 (λ k i. rw (get_or-take h table k 0 (omega arith)) (L.choices n q k (omega arith)))
 
 module _ {o : List ℕ} {at : ℕ} (h n : ℕ) (table : List ℕ) where
-  pub answer-refused : at ≤ length o → PutCut o at (answer_text h (refused n) table) at o
-  unfolding answer_text
-  answer-refused k = cut-none o at k
-
   pub answer-schedule : {e : ℕ} {p : List ℕ} {r : ℕ} {q : List ℕ} → PutCut o at (schedule_word ++ fields (h ∷ n ∷ []) ++ 10 ∷ []) e p → PutCut p e (slot_lines 0 (take h table)) r q → PutCut o at (answer_text h (answered schedule n) table) r q
   unfolding answer_text word_text
   answer-schedule P Q = cut-more _ _ (rw (two-line schedule_word h n) at P) Q
