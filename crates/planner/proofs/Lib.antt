@@ -1,7 +1,5 @@
 pub mod Places
 pub mod Records
-pub mod OneRow
-pub mod LaidOut
 pub mod Marks
 pub mod Outlooks
 pub mod Judgement

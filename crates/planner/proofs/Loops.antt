@@ -1,9 +1,9 @@
 -- What the loops over marks keep.
 use mathlib.Core.Path.{◌≡◌, refl, sym, ap, ◌∙◌}
 use mathlib.Core.Logic.{◌⊎◌, inl, inr}
-use mathlib.Core.Bool.{Bool, true, false, cond, ◌&&◌}
+use mathlib.Core.Bool.{Bool, true, false, cond, ◌&&◌, and-false}
 use mathlib.Core.List.{List, [], ◌∷◌, ◌++◌, append-nil}
-use Prim.Native.Nat.{ℕ, zero, suc, ◌+◌, ◌-◌, ◌*◌, ◌≤◌, ◌<◌, ◌%◌, ◌/◌}
+use Prim.Native.Nat.{ℕ, zero, suc, ◌+◌, ◌-◌, ◌≤◌, ◌<◌, ◌%◌, ◌/◌}
 use native.Mathlib.Nat.{sub-zero}
 use native.Mathlib.Numerals.{add-one}
 use native.Mathlib.Omega.{arith}
@@ -17,31 +17,35 @@ use Rattle.rules.specs.Positions.{Position, idle, each, ended, starts, restarted
 use Rattle.rules.specs.Choices.{live_from}
 use Rattle.rules.proofs.Laws.{T_and, le-or-lt, each_at, each-length}
 use Rattle.tasks.specs.declared.Standing.{Standing}
+use Rattle.tasks.specs.declared.Standing.TheVariants.{Ready, Waiting, Done}
 use Rattle.tasks.specs.Views.{standing_of}
 use Rattle.tasks.proofs.Slotwise.{starts-full}
-use Rattle.planner.specs.Rows.{task_at, row_tasks, Row, Laid, Modest}
+use Rattle.tasks.specs.declared.timed.Timed.{Timed}
+use Rattle.tasks.specs.Timed.{timed_task}
+use Rattle.tasks.proofs.Timing.{whole-is}
+use Rattle.planner.specs.Rows.{task_at, row_tasks, Laid, Modest}
 use Rattle.planner.specs.Marks.{mark, lowered, raised, unstarted, chosen, marks, spelled, Listed}
-use Rattle.planner.proofs.Places.{rows-length, row_at, laid-some, take-replicate}
+use Rattle.planner.proofs.Places.{row_small, rows-length, row_at, row_is, take-replicate}
 use Rattle.planner.proofs.Marks.{legal-allowed, chosen_is, raised-ended, next_fits, start_fits}
 
 -- ── a number for each task ──────────────────────────────────────────────────
 
-module _ (f : ℕ → model.Task → ℕ → ℕ) (n : ℕ) (rows ps : List ℕ) where
+module _ (f : ℕ → model.Task → ℕ → ℕ) (n : ℕ) (rows : List Timed) (ps : List ℕ) where
   -- the numbers before place i are those of the tasks
   pub record Filled (i : ℕ) (out : List ℕ) : Type 0 where
     pub few : i ≤ n
     pub most : n ≤ 8
     pub long : length ps ≡ 8
     pub eight : length out ≡ 8
-    pub done : (j : ℕ) → j < i → get_or out j 0 ≡ f j (task_at rows (j * 16)) (get_or ps j 0)
+    pub done : (j : ℕ) → j < i → get_or out j 0 ≡ f j (task_at rows j) (get_or ps j 0)
 
   pub filled-start : (out : List ℕ) → n ≤ 8 → length ps ≡ 8 → length out ≡ 8 → Filled 0 out
   filled-start out m l e = record { few = omega arith; most = m; long = l; eight = e; done = λ j h. let z : ⊥ = omega arith in absurd z }
 
-  filled-step : (i q : ℕ) (out : List ℕ) → Filled i out → i < n → q ≡ f i (task_at rows (i * 16)) (get_or ps i 0) → Filled (i + 1) (set out i q)
+  filled-step : (i q : ℕ) (out : List ℕ) → Filled i out → i < n → q ≡ f i (task_at rows i) (get_or ps i 0) → Filled (i + 1) (set out i q)
   filled-step i q out v h e = record { few = omega arith; most = v.most; long = v.long; eight = length-set out i q ∙ v.eight; done = λ j k. go j (le-or-lt i j) k }
     where
-      go : (j : ℕ) → (i ≤ j) ⊎ (j < i) → j < i + 1 → get_or (set out i q) j 0 ≡ f j (task_at rows (j * 16)) (get_or ps j 0)
+      go : (j : ℕ) → (i ≤ j) ⊎ (j < i) → j < i + 1 → get_or (set out i q) j 0 ≡ f j (task_at rows j) (get_or ps j 0)
       go j (inl l) k =
           let z : j ≡ i = omega arith in
           let a = v.eight in
@@ -62,8 +66,8 @@ module _ (f : ℕ → model.Task → ℕ → ℕ) (n : ℕ) (rows ps : List ℕ)
       ext_get_or 0 (take n out) (each f 0 s (take n ps)) (b ∙ sym (each-length f 0 s (take n ps) d ∙ r))
       (λ j k. get_or-take n out j 0 (omega arith) ∙ v.done j (omega arith) ∙ sym (each_at f 0 s (take n ps) j d (omega arith) ∙ at j (omega arith)))
     where
-      at : (j : ℕ) → j < n → f (0 + j) (get_or (row_tasks n rows) j no_task) (get_or (take n ps) j 0) ≡ f j (task_at rows (j * 16)) (get_or ps j 0)
-      at j k = rw (row_at n rows j k, get_or-take n ps j 0 k) (ap (λ i. f i (task_at rows (j * 16)) (get_or ps j 0)) (omega arith))
+      at : (j : ℕ) → j < n → f (0 + j) (get_or (row_tasks n rows) j no_task) (get_or (take n ps) j 0) ≡ f j (task_at rows j) (get_or ps j 0)
+      at j k = rw (row_at n rows j k, get_or-take n ps j 0 k) (ap (λ i. f i (task_at rows j) (get_or ps j 0)) (omega arith))
 
 -- ── a bit for each task ─────────────────────────────────────────────────────
 
@@ -77,13 +81,16 @@ unfolding halved
 halved-next b bits i e = rw (add-one, e)
 
 -- a task that starts again was done
-pub end-done : (rows : List ℕ) (at slot p : ℕ) → Row rows at → slot % get_or rows at 0 ≡ 0 → get_or rows (at + 2) 0 ≡ cond (starts slot (task_at rows at)) (span (task_at rows at)) p
-unfolding starts task_at
-end-done rows at slot p r e = r.whole ∙ rw (eq-eqb (slot % get_or rows at 0) 0 e)
+module _ (τ : Timed) (slot p q r : ℕ) (e : q ≡ slot) (f : r ≡ q % (timed_task τ).period) where
+  pub end-done : r ≡ 0 → τ.length ≡ cond (starts slot (timed_task τ)) (span (timed_task τ)) p
+  unfolding starts
+  end-done z = whole-is τ ∙ rw (eq-eqb (slot % (timed_task τ).period) 0 (sym (rw e at f) ∙ z))
 
-pub end_same : (rows : List ℕ) (at slot p : ℕ) → (slot % get_or rows at 0 ≡ 0 → ⊥) → p ≡ cond (starts slot (task_at rows at)) (span (task_at rows at)) p
-unfolding starts task_at
-end_same rows at slot p e = rw (ne_eqb (slot % get_or rows at 0) 0 e)
+  pub end-same : (r ≡ 0 → ⊥) → p ≡ cond (starts slot (timed_task τ)) (span (timed_task τ)) p
+  unfolding starts
+  end-same n = rw (ne_eqb (slot % (timed_task τ).period) 0 (λ z. n (f ∙ rw e z)))
+
+pub ruleset end_laws = (end-done, end-same)
 
 -- the progress before a slot, of one task
 unfoldable pub back : ℕ → ℕ → ℕ → model.Task → ℕ → ℕ
@@ -103,10 +110,13 @@ lowered-all : (slot b : ℕ) (s : List model.Task) (ps : List ℕ) → each (bac
 unfolding halved
 lowered-all slot b s ps = sym (lowered-each slot b 0 s ps)
 
-module _ (slot b n : ℕ) (rows ps : List ℕ) where
-  pub back_step : (i bits : ℕ) (out : List ℕ) → Filled (back slot b) n rows ps i out → bits ≡ halved b i → i < n
-      → (q r : ℕ) → q ≡ cond (starts slot (task_at rows (i * 16))) (span (task_at rows (i * 16))) (get_or ps i 0) → r ≡ q - bits % 2 → Filled (back slot b) n rows ps (i + 1) (set out i r)
-  back_step i bits out v e h q r f g = filled-step (back slot b) n rows ps i r out v h (back_at slot b i (task_at rows (i * 16)) (get_or ps i 0) q r bits e f g)
+module _ (slot b n : ℕ) (rows : List Timed) (ps : List ℕ) where
+  pub back_step : (i bits : ℕ) (out : List ℕ) → Filled (back slot b) n rows ps i out → bits ≡ halved b i → i < n → length rows ≡ 8
+      → (d : Timed) (q : ℕ) → q ≡ cond (starts slot (timed_task (get_or rows i d))) (span (timed_task (get_or rows i d))) (get_or ps i 0)
+      → Filled (back slot b) n rows ps (i + 1) (set out i (q - bits % 2))
+  back_step i bits out v e h eight d q f =
+      let m = v.most in
+      filled-step (back slot b) n rows ps i (q - bits % 2) out v h (back_at slot b i (task_at rows i) (get_or ps i 0) q (q - bits % 2) bits e (rw (row_is rows i d (omega arith)) at f) refl)
 
   pub back_end : (i : ℕ) (out : List ℕ) → Filled (back slot b) n rows ps i out → n ≤ i → take n out ≡ lowered b (each (unstarted slot) 0 (row_tasks n rows) (take n ps))
   back_end i out v h = filled-end (back slot b) n rows ps i out v h ∙ lowered-all slot b (row_tasks n rows) (take n ps)
@@ -115,10 +125,10 @@ module _ (slot b n : ℕ) (rows ps : List ℕ) where
 unfoldable pub forth : ℕ → ℕ → ℕ → model.Task → ℕ → ℕ
 forth slot b i τ p = restarted (suc slot) i τ (p + halved b i % 2)
 
-forth-at : (slot b i : ℕ) (τ : model.Task) (p q since r bits : ℕ) → 0 < τ.period → bits ≡ halved b i → q ≡ p + bits % 2 → since ≡ suc (slot % τ.period) → r ≡ cond (eqb since τ.period) 0 q
+forth-at : (slot b i : ℕ) (τ : model.Task) (p q since r bits : ℕ) → bits ≡ halved b i → q ≡ p + bits % 2 → since ≡ suc (slot % τ.period) → r ≡ cond (eqb since τ.period) 0 q
     → r ≡ forth slot b i τ p
 unfolding forth restarted
-forth-at slot b i τ p q since r bits h e f g k = k ∙ rw (g, ← starts-full slot τ, f, e)
+forth-at slot b i τ p q since r bits e f g k = k ∙ rw (g, ← starts-full slot τ, f, e)
 
 raised-each : (slot b i : ℕ) (s : List model.Task) (ps : List ℕ) → each (forth slot b) i s ps ≡ each (restarted (suc slot)) i s (raised (halved b i) ps)
 unfolding raised each forth halved
@@ -150,26 +160,41 @@ pub kept-modest : (n i : ℕ) (ps out : List ℕ) → Kept i ps out → Modest n
 unfolding Modest
 kept-modest n i ps out v m h = rw (kept_at i ps out v) (m i h)
 
-module _ (slot b n : ℕ) (rows ps : List ℕ) where
-  pub forth-step : (i bits : ℕ) (out : List ℕ) → Laid n rows → Filled (forth slot b) n rows ps i out → Kept i ps out → bits ≡ halved b i → i < n
-      → (q since r : ℕ) → q ≡ get_or out i 0 + bits % 2 → since ≡ suc (slot % (task_at rows (i * 16)).period) → r ≡ cond (eqb since (task_at rows (i * 16)).period) 0 q
+module _ (slot b n : ℕ) (rows : List Timed) (ps : List ℕ) where
+  pub forth-step : (i bits : ℕ) (out : List ℕ) → Filled (forth slot b) n rows ps i out → Kept i ps out → bits ≡ halved b i → i < n → length rows ≡ 8
+      → (d : Timed) (since r : ℕ) → since ≡ suc (slot % (timed_task (get_or rows i d)).period) → r ≡ cond (eqb since (timed_task (get_or rows i d)).period) 0 (get_or out i 0 + bits % 2)
       → Filled (forth slot b) n rows ps (i + 1) (set out i r)
-  forth-step i bits out l v k e h q since r f g w =
+  forth-step i bits out v k e h eight d since r g w =
+      let m = v.most in
+      let a : i < length rows = omega arith in
       filled-step (forth slot b) n rows ps i r out v h
-      (forth-at slot b i (task_at rows (i * 16)) (get_or ps i 0) q since r bits (laid-some n rows i l h) e (f ∙ rw (kept_at i ps out k)) g w)
+      (forth-at slot b i (task_at rows i) (get_or ps i 0) (get_or out i 0 + bits % 2) since r bits e (rw (kept_at i ps out k)) (rw (row_is rows i d a) at g) (rw (row_is rows i d a) at w))
 
   pub forth-end : (i : ℕ) (out : List ℕ) → Filled (forth slot b) n rows ps i out → n ≤ i → take n out ≡ each (restarted (suc slot)) 0 (row_tasks n rows) (raised b (take n ps))
   forth-end i out v h = filled-end (forth slot b) n rows ps i out v h ∙ raised_all slot b (row_tasks n rows) (take n ps)
 
 -- ── the ready task whose bit is set ─────────────────────────────────────────
 
-pub rose-not : (b : ℕ) (r : Bool) → b % 2 ≡ 0 → false ≡ eqb (b % 2) 1 && r
-rose-not b r e = rw e
+not_ready : (k : Standing) → (k ≡ Ready → ⊥) → is_ready (standing_of k) ≡ false
+unfolding standing_of is_ready
+not_ready Ready h = absurd (h refl)
+not_ready Waiting h = refl
+not_ready Done h = refl
 
-pub rose-if : (b : ℕ) (k : Standing) (τ : model.Task) (p : ℕ) (r : Bool) → (b % 2 ≡ 0 → ⊥) → standing_of k ≡ standing τ p → r ≡ is_ready (standing_of k) → r ≡ eqb (b % 2) 1 && is_ready (standing τ p)
-rose-if b k τ p r n e f = let z : b % 2 ≡ 1 = omega arith in rw (z, ← e) f
+module _ (b p : ℕ) (τ : model.Task) (k : Standing) (stands : standing_of k ≡ standing τ p) where
+  pub rose-ready : b % 2 ≡ 1 → k ≡ Ready → true ≡ eqb (b % 2) 1 && is_ready (standing τ p)
+  unfolding standing_of is_ready
+  rose-ready e h = rw (e, ← stands, h)
 
-module _ (b n : ℕ) (rows p : List ℕ) where
+  pub rose-other : (k ≡ Ready → ⊥) → false ≡ eqb (b % 2) 1 && is_ready (standing τ p)
+  rose-other h = rw (← stands, not_ready k h) (sym (and-false (eqb (b % 2) 1)))
+
+pub rose-not : (b : ℕ) (r : Bool) → (b % 2 ≡ 1 → ⊥) → false ≡ eqb (b % 2) 1 && r
+rose-not b r n = rw (ne_eqb (b % 2) 1 n)
+
+pub ruleset rose_laws = (rose-ready, rose-other, rose-not)
+
+module _ (b n : ℕ) (rows : List Timed) (p : List ℕ) where
   abbrev tasks : List model.Task
   tasks = row_tasks n rows
 
@@ -181,7 +206,7 @@ module _ (b n : ℕ) (rows p : List ℕ) where
 
   looked-next : (i bits : ℕ) → length p ≡ 8 → n ≤ 8 → i < n
       → chosen i bits (drop i tasks) (drop i (take n p))
-      ≡ cond (eqb (bits % 2) 1 && is_ready (standing (task_at rows (i * 16)) (get_or p i 0))) i (chosen (suc i) (bits / 2) (drop (suc i) tasks) (drop (suc i) (take n p)))
+      ≡ cond (eqb (bits % 2) 1 && is_ready (standing (task_at rows i) (get_or p i 0))) i (chosen (suc i) (bits / 2) (drop (suc i) tasks) (drop (suc i) (take n p)))
   unfolding chosen
   looked-next i bits e m h =
       let k = length-take-le n p (omega arith) in
@@ -191,11 +216,16 @@ module _ (b n : ℕ) (rows p : List ℕ) where
   pub looked-start : n ≤ 8 → length p ≡ 8 → Looked 0 b
   looked-start m e = record { eight = e; most = m; rest = refl }
 
-  pub looked-step : (i bits : ℕ) (r : Bool) → Looked i bits → i < n → r ≡ eqb (bits % 2) 1 && is_ready (standing (task_at rows (i * 16)) (get_or p i 0)) → r ≡ false → Looked (i + 1) (bits / 2)
-  looked-step i bits r v h e f = record { eight = v.eight; most = v.most; rest = v.rest ∙ looked-next i bits v.eight v.most h ∙ rw (← e, f, add-one) }
+  module _ (i bits : ℕ) (r : Bool) (v : Looked i bits) (h : i < n) (eight : length rows ≡ 8) (d : Timed)
+      (e : r ≡ eqb (bits % 2) 1 && is_ready (standing (timed_task (get_or rows i d)) (get_or p i 0))) where
+    rises : r ≡ eqb (bits % 2) 1 && is_ready (standing (task_at rows i) (get_or p i 0))
+    rises = let m = v.most in rw (row_is rows i d (omega arith)) at e
 
-  pub looked-found : (i bits : ℕ) (r : Bool) → Looked i bits → i < n → r ≡ eqb (bits % 2) 1 && is_ready (standing (task_at rows (i * 16)) (get_or p i 0)) → r ≡ true → i ≡ chosen 0 b tasks (take n p)
-  looked-found i bits r v h e f = sym (v.rest ∙ looked-next i bits v.eight v.most h ∙ rw (← e, f))
+    pub looked-step : r ≡ false → Looked (i + 1) (bits / 2)
+    looked-step f = record { eight = v.eight; most = v.most; rest = v.rest ∙ looked-next i bits v.eight v.most h ∙ rw (← rises, f, add-one) }
+
+    pub looked-found : r ≡ true → i ≡ chosen 0 b tasks (take n p)
+    looked-found f = sym (v.rest ∙ looked-next i bits v.eight v.most h ∙ rw (← rises, f))
 
   pub looked-end : (i bits : ℕ) → Looked i bits → n ≤ i → 255 ≡ chosen 0 b tasks (take n p)
   unfolding chosen idle
@@ -203,7 +233,7 @@ module _ (b n : ℕ) (rows p : List ℕ) where
 
 -- ── marks into choices ──────────────────────────────────────────────────────
 
-module _ (n : ℕ) (rows : List ℕ) (h : ℕ) (given : List ℕ) where
+module _ (n : ℕ) (rows : List Timed) (h : ℕ) (given : List ℕ) where
   abbrev held : List model.Task
   held = row_tasks n rows
 
@@ -253,7 +283,7 @@ module _ (n : ℕ) (rows : List ℕ) (h : ℕ) (given : List ℕ) where
   pub spelling-modest : (slot : ℕ) (table progress : List ℕ) → Laid n rows → Spelling slot table progress → Modest n progress
   unfolding Modest
   spelling-modest slot table progress l v j k =
-      let a = (l.row j k).small in
+      let a = row_small rows j in
       let b = rw (row_at n rows j k) at (v.within j (rw (rows-length n rows) k)) in
       let e = sym (get_or-take n progress j 0 k) ∙ ap (λ ps. get_or ps j 0) v.is in
       omega arith

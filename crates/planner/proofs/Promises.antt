@@ -15,7 +15,9 @@ use Rattle.tasks.specs.Views.{record_of, set_of}
 use Rattle.tasks.proofs.Views.{arrays}
 use Rattle.planner.specs.declared.Word.{Word}
 use Rattle.planner.specs.declared.Answer.{Answer}
-use Rattle.planner.specs.declared.Answer.TheVariants.{Refused, Answered}
+use Rattle.tasks.specs.declared.refusal.Refusal.{Refusal}
+use Rattle.tasks.specs.Refusals.{number_of}
+use Rattle.std.specs.Prelude.{Result, Ok, Err}
 use Rattle.planner.specs.Views.{word_of, answer_of}
 use Rattle.planner.proofs.plan.Statement.{statement}
 use Rattle.planner.proofs.plan.Met.{met}
@@ -26,7 +28,7 @@ plan-exact = met
 
 -- what a call gives: what is returned, and what the lent table and area hold afterwards
 pub record Given : Type 0 where
-  pub answer : Answer
+  pub answer : Result Answer Refusal
   pub table : List ℕ
   pub area : List ℕ
 
@@ -39,7 +41,7 @@ Exact P = (s : TaskSet) (table area : List ℕ) → PlanReply (record_of s) tabl
 
 -- condition 2 of any planner that meets it: an admissible set with a table long enough gets a word and a count, as the condition says
 pub condition-2 : (P : AnyPlan) → Exact P → (s : TaskSet) (table area : List ℕ) → plan_refusal (record_of s) table ≡ 0
-    → (w : Word) × (n : ℕ) × ((P s table area).answer ≡ Answered w n)
+    → (w : Word) × (n : ℕ) × ((P s table area).answer ≡ Ok (record { word = w; dead = n }))
     × ((dead : List Position) → Precede (set_of s) dead → Condition2 (set_of s) dead area (word_of w) n (take (hyper (set_of s)) (P s table area).table))
 unfolding set_of answer_of
 condition-2 P E s table area e =
@@ -49,11 +51,11 @@ condition-2 P E s table area e =
     Meets : model.Word → ℕ → Type 0
     Meets v n = (dead : List Position) → Precede (set_of s) dead → Condition2 (set_of s) dead area v n (take (hyper (set_of s)) (P s table area).table)
 
-    go : (a : Answer) → (P s table area).answer ≡ a → (v : model.Word) (n : ℕ) → answer_of (P s table area).answer ≡ model.answered v n → Meets v n
-        → (w : Word) × (k : ℕ) × ((P s table area).answer ≡ Answered w k) × Meets (word_of w) k
-    go (Refused x) q v n f C = let z : model.refused x ≡ model.answered v n = rw q at f in clash-01 (cc)
-    go (Answered w k) q v n f C =
-        let z : model.answered (word_of w) k ≡ model.answered v n = rw q at f in
-        let a : word_of w ≡ v = cc in
-        let b : k ≡ n = cc in
-        (w, k, q, rw (a, b) C)
+    go : (a : Result Answer Refusal) → (P s table area).answer ≡ a → (v : model.Word) (n : ℕ) → answer_of (P s table area).answer ≡ model.answered v n → Meets v n
+        → (w : Word) × (k : ℕ) × ((P s table area).answer ≡ Ok (record { word = w; dead = k })) × Meets (word_of w) k
+    go (Err x) q v n f C = let z : model.refused (number_of x) ≡ model.answered v n = rw q at f in clash-01 (cc)
+    go (Ok w) q v n f C =
+        let z : model.answered (word_of w.word) w.dead ≡ model.answered v n = rw q at f in
+        let a : word_of w.word ≡ v = cc in
+        let b : w.dead ≡ n = cc in
+        (w.word, w.dead, q, rw (a, b) C)

@@ -1,16 +1,17 @@
 -- Records in the area: one compared number by number, one among the first, and one put behind them.
 use mathlib.Core.Path.{◌≡◌, refl, sym, ap, ap₂, ◌∙◌}
 use mathlib.Core.Logic.{◌⊎◌, inl, inr}
-use mathlib.Core.Bool.{Bool, true, false, ◌&&◌, ◌||◌}
+use mathlib.Core.Bool.{Bool, true, false, ◌&&◌, ◌||◌, or-true}
 use mathlib.Core.List.{List, [], ◌∷◌, ◌++◌, append_assoc}
 use Prim.Native.Nat.{ℕ, zero, suc, ◌+◌, ◌-◌, ◌*◌, ◌≤◌, ◌<◌}
-use native.Mathlib.Nat.{suc-mul, mul-le-mul_right}
+use native.Mathlib.Nat.{suc-mul}
 use native.Mathlib.Numerals.{add-one}
 use native.Mathlib.Omega.{arith}
 use borrow.Author.Tests.{eq-eqb, ne_eqb, eqb-true}
 use lib.Dec.{T, eqb}
-use lib.ListN.{length, get_or, take, drop, set, length-drop, length-set, length-append}
-use lib.Seq.{drop-cons, drop-length, length-take-le, get_or-take, get_or-drop, paste, paste-zero, paste-suc, take-suc-set, drop-set-lt, take_at, drop-append-add, drop-drop}
+use lib.Pointwise.{pointwise}
+use lib.ListN.{length, get_or, take, drop, length-append}
+use lib.Seq.{drop-cons, take_at, drop-append-add, drop-drop}
 use Rattle.rules.specs.Lists.{In, same_list}
 use Rattle.rules.specs.Positions.{Position}
 use Rattle.rules.specs.Planner.{records}
@@ -21,195 +22,53 @@ use Rattle.planner.specs.Area.{record_at, among}
 
 -- ── a record, number by number ──────────────────────────────────────────────
 
-same_next : (a b : List ℕ) (i : ℕ) → i < length a → i < length b
-    → same_list (drop i a) (drop i b) ≡ eqb (get_or a i 0) (get_or b i 0) && same_list (drop (suc i) a) (drop (suc i) b)
+-- `==` of two slices is the rules' test
+pub same-slices : (xs ys : List ℕ) → pointwise eqb xs ys ≡ same_list xs ys
 unfolding same_list
-same_next a b i h k = rw (drop-cons a i 0 h, drop-cons b i 0 k)
+same-slices [] [] = refl
+same-slices [] (y ∷ ys) = refl
+same-slices (x ∷ xs) [] = refl
+same-slices (x ∷ xs) (y ∷ ys) = rw (same-slices xs ys)
 
-same_end : (a b : List ℕ) (i : ℕ) → i ≡ length a → i ≡ length b → same_list (drop i a) (drop i b) ≡ true
+-- the slot and the numbers behind it
+first : (area progress : List ℕ) (at n slot : ℕ) → at + (n + 1) ≤ length area
+    → same_list (slot ∷ take n progress) (take (n + 1) (drop at area))
+    ≡ eqb slot (get_or area at 0) && pointwise eqb (take n progress) (take (at + 1 + n - (at + 1)) (drop (at + 1) area))
 unfolding same_list
-same_end a b i p q = rw (p, drop-length) (rw (sym p ∙ q, drop-length))
+first area progress at n slot h =
+    let m : at + 1 + n - (at + 1) ≡ n = omega arith in
+    rw (m, add-one n, drop-cons area at 0 (omega arith), add-one at, same-slices (take n progress) (take n (drop (suc at) area)))
 
-module _ (area : List ℕ) (at n slot : ℕ) (progress : List ℕ) where
-  abbrev wanted : List ℕ
-  wanted = slot ∷ take n progress
+pub same-slot : (area progress : List ℕ) (at n slot : ℕ) (b : Bool) → at + (n + 1) ≤ length area → slot ≡ get_or area at 0
+    → b ≡ pointwise eqb (take n progress) (take (at + 1 + n - (at + 1)) (drop (at + 1) area)) → b ≡ same_list (slot ∷ take n progress) (take (n + 1) (drop at area))
+same-slot area progress at n slot b h e f = f ∙ sym (first area progress at n slot h ∙ rw (eq-eqb slot (get_or area at 0) e))
 
-  abbrev there : List ℕ
-  there = take (n + 1) (drop at area)
+pub other-slot : (area progress : List ℕ) (at n slot : ℕ) → at + (n + 1) ≤ length area → (slot ≡ get_or area at 0 → ⊥)
+    → eqb slot (get_or area at 0) ≡ same_list (slot ∷ take n progress) (take (n + 1) (drop at area))
+other-slot area progress at n slot h d = let e = ne_eqb slot (get_or area at 0) d in e ∙ sym (first area progress at n slot h ∙ rw e)
 
-  -- the numbers before place j + 1 agree
-  pub record Alike (j : ℕ) : Type 0 where
-    pub few : j ≤ n
-    pub most : n ≤ length progress
-    pub fits : at + (n + 1) ≤ length area
-    pub rest : same_list wanted there ≡ same_list (drop (suc j) wanted) (drop (suc j) there)
-
-  wanted-length : n ≤ length progress → length wanted ≡ suc n
-  wanted-length m = ap suc (length-take-le n progress m)
-
-  there-length : at + (n + 1) ≤ length area → length there ≡ suc n
-  there-length f = length-take-le (n + 1) (drop at area) (omega (arith, length-drop at area)) ∙ add-one n
-
-  there-at : (j : ℕ) → j < n + 1 → get_or there j 0 ≡ get_or area (at + j) 0
-  there-at j h = get_or-take (n + 1) (drop at area) j 0 h ∙ get_or-drop at area j 0
-
-  -- at the slot
-  first : n ≤ length progress → at + (n + 1) ≤ length area → same_list wanted there ≡ eqb slot (get_or area at 0) && same_list (drop 1 wanted) (drop 1 there)
-  first m f =
-      let k = there-length f in
-      let z : at + 0 ≡ at = omega arith in
-      same_next wanted there 0 (omega arith) (omega arith) ∙ rw (there-at 0 (omega arith), z)
-
-  pub alike-never : n ≤ length progress → at + (n + 1) ≤ length area → (get_or area at 0 ≡ slot → ⊥) → false ≡ same_list wanted there
-  alike-never m f d = sym (first m f ∙ rw (ne_eqb slot (get_or area at 0) (λ q. d (sym q))))
-
-  pub alike-start : n ≤ length progress → at + (n + 1) ≤ length area → get_or area at 0 ≡ slot → Alike 0
-  alike-start m f d = record { few = omega arith; most = m; fits = f; rest = first m f ∙ rw (eq-eqb slot (get_or area at 0) (sym d)) }
-
-  -- at a task's progress
-  further : (j : ℕ) → Alike j → j < n → same_list wanted there ≡ eqb (get_or progress j 0) (get_or area (at + 1 + j) 0) && same_list (drop (suc (suc j)) wanted) (drop (suc (suc j)) there)
-  further j v h =
-      let f = v.fits in
-      let k = wanted-length v.most in
-      let l = there-length v.fits in
-      let z : at + suc j ≡ at + 1 + j = omega arith in
-      v.rest ∙ same_next wanted there (suc j) (omega arith) (omega arith) ∙ rw (there-at (suc j) (omega arith), z, get_or-take n progress j 0 h)
-
-  pub alike-off : (j : ℕ) → Alike j → j < n → (get_or area (at + 1 + j) 0 ≡ get_or progress j 0 → ⊥) → false ≡ same_list wanted there
-  alike-off j v h d = sym (further j v h ∙ rw (ne_eqb (get_or progress j 0) (get_or area (at + 1 + j) 0) (λ q. d (sym q))))
-
-  pub alike-step : (j : ℕ) → Alike j → j < n → get_or area (at + 1 + j) 0 ≡ get_or progress j 0 → Alike (j + 1)
-  alike-step j v h d = record {
-    few = omega arith;
-    most = v.most;
-    fits = v.fits;
-    rest = further j v h ∙ rw (eq-eqb (get_or progress j 0) (get_or area (at + 1 + j) 0) (sym d), add-one j);
-  }
-
-  pub alike_end : (j : ℕ) → Alike j → n ≤ j → true ≡ same_list wanted there
-  alike_end j v h =
-      let a = v.few in
-      let k = wanted-length v.most in
-      let l = there-length v.fits in
-      sym (v.rest ∙ same_end wanted there (suc j) (omega arith) (omega arith))
+pub ruleset alike = (same-slot, other-slot)
 
 -- ── among the first records ─────────────────────────────────────────────────
 
--- the place of record k, within the first m
-room : (k m w : ℕ) → k < m → k * w + w ≤ m * w
-room k m w h = omega (arith, suc-mul k w, mul-le-mul_right {m = suc k} {n = m} w h)
-
-or-true : (b : Bool) → (b || true) ≡ true
-or-true true = refl
-or-true false = refl
-
-module _ (n : ℕ) (area x : List ℕ) where
-  -- of the first m only the first k are left, and at is the place behind them
-  pub record Left (m at : ℕ) : Type 0 where
-    pub k : ℕ
-    pub few : k ≤ m
-    pub fits : m * (n + 1) ≤ length area
-    pub place : at ≡ k * (n + 1)
-    pub same : among (n + 1) area x m ≡ among (n + 1) area x k
-
-  -- the newest of those left
-  record Newest (m at : ℕ) : Type 0 where
-    k : ℕ
-    few : k < m
-    fits : m * (n + 1) ≤ length area
-    place : at - (n + 1) ≡ k * (n + 1)
-    wide : n + 1 ≤ at
-    same : among (n + 1) area x m ≡ same_list x (take (n + 1) (drop (at - (n + 1)) area)) || among (n + 1) area x k
-
-  newest : (m at : ℕ) → Left m at → 0 < at → Newest m at
+-- of the first m records only the first k are left
+module _ (w : ℕ) (area x : List ℕ) (m : ℕ) where
+  newest : (k : ℕ) (b : Bool) → 0 < k → b ≡ same_list x (take w (drop ((k - 1) * w) area)) → among w area x k ≡ b || among w area x (k - 1)
   unfolding among record_at
-  newest m at v h = go v.k v.few v.place v.same
-    where
-      go : (k : ℕ) → k ≤ m → at ≡ k * (n + 1) → among (n + 1) area x m ≡ among (n + 1) area x k → Newest m at
-      go zero f p s = let z : ⊥ = omega arith in absurd z
-      go (suc k) f p s =
-          let e : at ≡ k * (n + 1) + (n + 1) = p ∙ suc-mul k (n + 1) in
-          let q : at - (n + 1) ≡ k * (n + 1) = omega arith in
-          record { k = k; few = f; fits = v.fits; place = q; wide = omega arith; same = s ∙ rw q }
+  newest zero b h f = let z : ⊥ = omega arith in absurd z
+  newest (suc k) b h f = let z : suc k - 1 ≡ k = omega arith in rw z (ap (λ q. q || among w area x k) (sym (rw z at f)))
 
-  pub left-start : (m : ℕ) → m * (n + 1) ≤ length area → Left m (m * (n + 1))
-  left-start m h = record { k = m; few = omega arith; fits = h; place = refl; same = refl }
+  pub left-found : (k : ℕ) (b : Bool) → among w area x m ≡ among w area x k → 0 < k → b ≡ same_list x (take w (drop ((k - 1) * w) area)) → b ≡ true → true ≡ among w area x m
+  left-found k b l h f e = sym (l ∙ newest k b h f ∙ rw e)
 
-  pub left-wide : (m at : ℕ) → Left m at → 0 < at → n + 1 ≤ at
-  left-wide m at v h = (newest m at v h).wide
+  pub left_step : (k : ℕ) (b : Bool) → among w area x m ≡ among w area x k → 0 < k → b ≡ same_list x (take w (drop ((k - 1) * w) area)) → b ≡ false → among w area x m ≡ among w area x (k - 1)
+  left_step k b l h f e = l ∙ newest k b h f ∙ rw e
 
-  pub left-fits : (m at : ℕ) → Left m at → 0 < at → at - (n + 1) + (n + 1) ≤ length area
-  left-fits m at v h = let r = newest m at v h in let f = r.fits in let p = r.place in omega (arith, room r.k m (n + 1) r.few)
-
-  pub left_step : (m at : ℕ) → Left m at → 0 < at → (b : Bool) → b ≡ same_list x (take (n + 1) (drop (at - (n + 1)) area)) → b ≡ false → Left m (at - (n + 1))
-  left_step m at v h b e f =
-      let r = newest m at v h in
-      let l = r.few in
-      record { k = r.k; few = omega arith; fits = v.fits; place = r.place; same = r.same ∙ rw (← e, f) }
-
-  pub left-found : (m at : ℕ) → Left m at → 0 < at → (b : Bool) → b ≡ same_list x (take (n + 1) (drop (at - (n + 1)) area)) → b ≡ true → true ≡ among (n + 1) area x m
-  left-found m at v h b e f = sym ((newest m at v h).same ∙ rw (← e, f))
-
-  pub left_end : (m at : ℕ) → Left m at → at ≤ 0 → false ≡ among (n + 1) area x m
+  pub left_end : (k : ℕ) → among w area x m ≡ among w area x k → k ≤ 0 → false ≡ among w area x m
   unfolding among
-  left_end m at v h = go v.k v.place v.same
-    where
-      go : (k : ℕ) → at ≡ k * (n + 1) → among (n + 1) area x m ≡ among (n + 1) area x k → false ≡ among (n + 1) area x m
-      go zero p s = sym s
-      go (suc k) p s = let z : ⊥ = omega (arith, suc-mul k (n + 1)) in absurd z
+  left_end k l h = let z : k ≡ 0 = omega arith in sym (rw z at l)
 
--- ── a record put behind the others ──────────────────────────────────────────
-
-module _ (d : List ℕ) (at n : ℕ) (progress : List ℕ) where
-  -- j of the n numbers behind place at are written
-  pub record Put (j : ℕ) (area : List ℕ) : Type 0 where
-    pub few : j ≤ n
-    pub eight : length progress ≡ 8
-    pub most : n ≤ 8
-    pub fits : at + (n + 1) ≤ length d
-    pub long : length area ≡ length d
-    pub done : area ≡ paste d (at + 1) progress j
-
-  pub put_step : (j : ℕ) (area : List ℕ) → Put j area → j < n → Put (j + 1) (set area (at + 1 + j) (get_or progress j 0))
-  put_step j area v h =
-      let e = v.eight in
-      let m = v.most in
-      let f = v.fits in
-      record {
-        few = omega arith;
-        eight = v.eight;
-        most = v.most;
-        fits = v.fits;
-        long = length-set area (at + 1 + j) (get_or progress j 0) ∙ v.long;
-        done = ap (λ a. set a (at + 1 + j) (get_or progress j 0)) v.done ∙ rw (add-one j) (paste-suc d (at + 1) progress j 0 (omega arith) (omega arith));
-      }
-
--- the slot is written first
-pub put-start : (d : List ℕ) (recorded n slot : ℕ) (progress : List ℕ) → length progress ≡ 8 → n ≤ 8 → (recorded + 1) * (n + 1) ≤ length d
-    → Put (set d (recorded * (n + 1)) slot) (recorded * (n + 1)) n progress 0 (set d (recorded * (n + 1)) slot)
-put-start d recorded n slot progress e m f =
-    let at = recorded * (n + 1) in
-    record {
-      few = omega arith;
-      eight = e;
-      most = m;
-      fits = omega (arith, length-set d at slot, ap (λ i. i * (n + 1)) (add-one recorded), suc-mul recorded (n + 1));
-      long = refl;
-      done = paste-zero (set d at slot) (at + 1) progress;
-    }
-
--- and all n numbers behind it make the record
-pub put-end : (d : List ℕ) (recorded at n slot : ℕ) (progress : List ℕ) (j : ℕ) (area : List ℕ) → at ≡ recorded * (n + 1) → Put (set d at slot) at n progress j area → n ≤ j
-    → area ≡ take (recorded * (n + 1)) d ++ ((slot ∷ take n progress) ++ drop ((recorded + 1) * (n + 1)) d)
-put-end d recorded at n slot progress j area e v h =
-    let a = v.few in
-    let f = v.fits in
-    let k = length-set d at slot in
-    let z : j ≡ n = omega arith in
-    let after : at + 1 + n ≡ (recorded + 1) * (n + 1) = omega (arith, ap (λ i. i * (n + 1)) (add-one recorded), suc-mul recorded (n + 1)) in
-    v.done
-    ∙ rw (z, add-one at, take-suc-set d at slot (omega arith), ← add-one at, drop-set-lt (at + 1 + n) d at slot (omega arith), after, ← e, append_assoc (take at d) (slot ∷ []) (take n progress))
-    (append_assoc (take at d) (slot ∷ take n progress) (drop ((recorded + 1) * (n + 1)) d))
+pub ruleset left_laws = (left-found, left_step, left_end)
 
 -- ── the records of positions ────────────────────────────────────────────────
 

@@ -1,30 +1,36 @@
 -- The search repeated to its end: what the loop keeps, what each step needs, and what the last one gives.
 use mathlib.Core.Path.{◌≡◌, refl, sym, ap, ◌∙◌}
+use mathlib.Core.Logic.{◌⊎◌, inl, inr}
 use mathlib.Core.Bool.{true, false}
 use mathlib.Core.List.{List}
 use Prim.Native.Nat.{ℕ, ◌≤◌, ◌<◌}
 use native.Mathlib.Omega.{arith}
 use borrow.Author.Tests.{le-ltb}
+use Rattle.std.specs.Prelude.{Some}
 use lib.Dec.{eqb}
 use lib.ListN.{length, replicate}
-use Rattle.rules.specs.Tasks.{Task, Fit}
+use Rattle.rules.specs.Tasks as model
+use Rattle.rules.specs.Tasks.{Fit}
 use Rattle.rules.specs.Hyper.{hyper}
 use Rattle.rules.specs.Positions.{idle}
 use Rattle.rules.proofs.Laws.{true-T}
 use Rattle.rules.proofs.Lists.{clash-bool}
 use Rattle.rules.proofs.Plan.Ends.{left}
+use Rattle.tasks.specs.declared.timed.Timed.{Timed}
 use Rattle.planner.specs.declared.Word.{Word}
 use Rattle.planner.specs.declared.Word.TheVariants.{Schedule, Infeasible, OutOfRoom}
+use Rattle.planner.specs.declared.Answer.{Answer}
+use Rattle.planner.specs.declared.search.Choice as choices
+use Rattle.planner.specs.declared.search.Choice.TheVariants.{Task}
 use Rattle.planner.specs.declared.search.Search.{Search}
-use Rattle.planner.specs.declared.search.Stepped.{Stepped}
-use Rattle.planner.specs.declared.search.Status.{Status}
-use Rattle.planner.specs.declared.search.Status.TheVariants.{Going}
-use Rattle.planner.specs.Rows.{task_at, row_tasks}
+use Rattle.planner.specs.declared.search.Stepped.TheVariants.{Going, Ended}
+use Rattle.planner.specs.Rows.{row_tasks}
 use Rattle.planner.specs.Machine as machine
 use Rattle.planner.specs.Machine.{Machine, is_going, giving, leads_on, pushed, passed_over, step_of, Tries, adds, passes, spent, Took, once, tries, Reaches, ends, steps, opened}
-use Rattle.planner.specs.Views.{status_of, machine_of, Fits, Opening, end_of, Ran}
-use Rattle.planner.proofs.Places.{rows-length, row_at, take-replicate}
+use Rattle.planner.specs.Views.{number_of, number_in, machine_of, Gives, Ends, Stepping, Fits, Opening, end_of, Ran}
+use Rattle.planner.proofs.Places.{rows-length, take-replicate}
 use Rattle.planner.proofs.Searching.{Setting, Choice, Searching, opened-searching, step-searching, step_falls}
+use Rattle.planner.proofs.Steps.{number-few}
 use Rattle.planner.proofs.Bounds.{room-holds, area-length}
 
 over : (w : Word) → is_going (end_of w) ≡ false
@@ -35,7 +41,7 @@ over OutOfRoom = refl
 
 -- ── choices tried are steps ─────────────────────────────────────────────────
 
-module _ (s : List Task) (K : ℕ) where
+module _ (s : List model.Task) (K : ℕ) where
   add_step : (m : Machine) → eqb m.slot (hyper s) ≡ false → m.choice ≤ idle → leads_on s m ≡ true → step_of s K m ≡ giving machine.going (pushed s m)
   unfolding step_of
   add_step m b k e = rw (b, le-ltb idle m.choice k, e)
@@ -44,7 +50,7 @@ module _ (s : List Task) (K : ℕ) where
   unfolding step_of
   pass_step m b k e = rw (b, le-ltb idle m.choice k, e)
 
-module _ (s : List Task) (K : ℕ) (table area : List ℕ) (S : Setting s K table area) where
+module _ (s : List model.Task) (K : ℕ) (table area : List ℕ) (S : Setting s K table area) where
   abbrev left_of : Machine → ℕ
   left_of m = left K (hyper s) m.recorded m.slot m.choice
 
@@ -85,8 +91,8 @@ module _ (s : List Task) (K : ℕ) (table area : List ℕ) (S : Setting s K tabl
 
 -- ── the loop ────────────────────────────────────────────────────────────────
 
-module _ (n : ℕ) (rows : List ℕ) (h K : ℕ) (t₀ a₀ : List ℕ) where
-  abbrev s : List Task
+module _ (n : ℕ) (rows : List Timed) (h K : ℕ) (t₀ a₀ : List ℕ) where
+  abbrev s : List model.Task
   s = row_tasks n rows
 
   -- what is reached from the search as it stands is reached from its start
@@ -97,22 +103,16 @@ module _ (n : ℕ) (rows : List ℕ) (h K : ℕ) (t₀ a₀ : List ℕ) where
     pub good : Searching s K t₀ a₀ (machine_of n at t a)
     pub back : (e : machine.Status) (o : Machine) → Reaches s K (machine_of n at t a) e o → Reaches s K (opened s t₀ a₀) e o
 
-  fit : Opening n rows h K t₀ a₀ → Fit s
-  unfolding task_at
-  fit O =
-      let l = rows-length n rows in
-      record { due = λ j k. O.due j (omega arith); fits = λ j k. rw (row_at n rows j (omega arith)) (O.laid.row j (omega arith)).fits }
-
   setting : Opening n rows h K t₀ a₀ → Setting s K t₀ a₀
   setting O =
       let l = rows-length n rows in let f = O.laid.few in let p = O.period in let w = O.long in let x = O.some in
-      record { fit = fit O; some-task = omega arith; few = omega arith; begun = true-T _ O.begun; wide = omega arith; room_is = O.room_is }
+      record { fit = O.fit; some-task = omega arith; few = omega arith; begun = true-T _ O.begun; wide = omega arith; room_is = O.room_is }
 
-  begun-is : n ≤ 8 → machine_of n (record { slot = 0; progress = replicate 8 0; choice = 0; recorded = 0 }) t₀ a₀ ≡ opened s t₀ a₀
+  begun-is : n ≤ 8 → machine_of n (record { slot = 0; progress = replicate 8 0; choice = Some (Task 0); recorded = 0 }) t₀ a₀ ≡ opened s t₀ a₀
   unfolding machine_of opened
   begun-is f = ap {B = Machine} (λ p. record { slot = 0; progress = p; choice = 0; recorded = 0; table = t₀; area = a₀ }) (take-replicate n 8 0 f ∙ rw (rows-length n rows))
 
-  pub underway-start : Opening n rows h K t₀ a₀ → Underway t₀ a₀ (record { slot = 0; progress = replicate 8 0; choice = 0; recorded = 0 })
+  pub underway-start : Opening n rows h K t₀ a₀ → Underway t₀ a₀ (record { slot = 0; progress = replicate 8 0; choice = Some (Task 0); recorded = 0 })
   underway-start O =
       let b = begun-is O.laid.few in
       record { opening = O; table = refl; area = refl; good = rw b (opened-searching s K t₀ a₀ (setting O)); back = λ e o r. rw b at r }
@@ -133,25 +133,27 @@ module _ (n : ℕ) (rows : List ℕ) (h K : ℕ) (t₀ a₀ : List ℕ) where
           few = O.few;
           slots = omega arith;
           long = omega arith;
-          choices = rw l at U.good.choices;
+          choices = λ c e. tried c (rw (l, e) at U.good.choices);
           records = U.good.roomy;
           holds = rw (U.area, O.room_is) (rw l at (room-holds s a₀));
         }
+      where
+        tried : (c : choices.Choice) → (number_of c < n) ⊎ ((number_of c ≡ 255) ⊎ (number_of c ≡ 256)) → (number_of c < n) ⊎ (number_of c ≡ 255)
+        tried c (inl h) = inl h
+        tried c (inr (inl e)) = inr e
+        tried c (inr (inr e)) = let k = number-few c in let z : ⊥ = omega arith in absurd z
 
-    module _ (q : Stepped) (t' a' : List ℕ) (did : Took s K (machine_of n at t a) (status_of q.status) (machine_of n q.search t' a')) where
-      took : (k : Status) → q.status ≡ k → Took s K (machine_of n at t a) (status_of k) (machine_of n q.search t' a')
-      took k g = rw g at did
+    module _ (t' a' : List ℕ) where
+      went : (on : Search) → Stepping s K (machine_of n at t a) n (Going on) t' a' → Took s K (machine_of n at t a) machine.going (machine_of n on t' a')
+      unfolding Gives giving
+      went on did = rw did.given at did.took
 
-      went : q.status ≡ Going → Took s K (machine_of n at t a) machine.going (machine_of n q.search t' a')
-      unfolding status_of
-      went g = took Going g
-
-      pub underway-step : q.status ≡ Going → Underway t' a' q.search
+      pub underway-step : (on : Search) → Stepping s K (machine_of n at t a) n (Going on) t' a' → Underway t' a' on
       unfolding machine_of
-      underway-step g =
+      underway-step on did =
           let S = setting U.opening in
-          let m = machine_of n q.search t' a' in
-          let k = (going_on s K t₀ a₀ S (machine_of n at t a) m (went g) U.good).0 in
+          let m = machine_of n on t' a' in
+          let k = (going_on s K t₀ a₀ S (machine_of n at t a) m (went on did) U.good).0 in
           record {
             opening = U.opening;
             table = k.good.size;
@@ -160,20 +162,23 @@ module _ (n : ℕ) (rows : List ℕ) (h K : ℕ) (t₀ a₀ : List ℕ) where
             back = λ w o r. U.back w o (k.back w o r);
           }
 
-      pub step_less : q.status ≡ Going → left K h q.search.recorded q.search.slot q.search.choice < left K h at.recorded at.slot at.choice
+      pub step_less : (on : Search) → Stepping s K (machine_of n at t a) n (Going on) t' a'
+          → left K h on.recorded on.slot (number_in on.choice) < left K h at.recorded at.slot (number_in at.choice)
       unfolding machine_of
-      step_less g = rw U.opening.period (going_on s K t₀ a₀ (setting U.opening) (machine_of n at t a) (machine_of n q.search t' a') (went g) U.good).1
+      step_less on did = rw U.opening.period (going_on s K t₀ a₀ (setting U.opening) (machine_of n at t a) (machine_of n on t' a') (went on did) U.good).1
 
       -- a step that does not go on ends the run
-      pub stops : (k : Status) (w : Word) → q.status ≡ k → status_of k ≡ end_of w → Ran s K (opened s t₀ a₀) (end_of w) q.search.recorded t' a'
-      unfolding machine_of is_going
-      stops k w g e = record {
-        last = machine_of n q.search t' a';
-        reaches = U.back (end_of w) (machine_of n q.search t' a') (stop (rw e at (took k g)) (over w));
-        counted = refl;
-        table_is = refl;
-        area_is = refl;
-      }
+      pub stops : (w : Answer) → Stepping s K (machine_of n at t a) n (Ended w) t' a' → Ran s K (opened s t₀ a₀) (end_of w.word) w.dead t' a'
+      unfolding Gives is_going
+      stops w did =
+          let g : Ends w t' a' did.reached = did.given in
+          record {
+            last = did.reached.machine;
+            reaches = U.back (end_of w.word) did.reached.machine (stop (rw g.word_is at did.took) (over w.word));
+            counted = g.counted;
+            table_is = g.table_is;
+            area_is = g.area_is;
+          }
         where
           stop : {m o : Machine} {v : machine.Status} → Took s K m v o → is_going v ≡ false → Reaches s K m v o
           stop (once r) i = ends r i

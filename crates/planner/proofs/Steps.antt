@@ -1,32 +1,42 @@
 -- A step of the search in the code's terms, one law for each branch.
-use mathlib.Core.Path.{◌≡◌, sym, ◌∙◌}
+use mathlib.Core.Path.{◌≡◌, refl, sym, ◌∙◌}
 use mathlib.Core.Logic.{◌⊎◌, inl, inr}
 use mathlib.Core.Bool.{false}
 use mathlib.Core.List.{List}
-use Prim.Native.Nat.{ℕ, suc, ◌+◌, ◌-◌, ◌≤◌, ◌<◌}
+use Prim.Native.Nat.{ℕ, suc, ◌+◌, ◌≤◌, ◌<◌}
 use native.Mathlib.Omega.{arith}
 use native.Mathlib.Nat.{mul-le-mul_right}
 use borrow.Author.Tests.{eq-eqb, ne_eqb, lt-ltb, le-ltb}
 use lib.Dec.{eqb}
-use Rattle.rules.specs.Tasks.{Task}
+use Rattle.rules.specs.Tasks as model
 use Rattle.rules.specs.Hyper.{hyper}
 use Rattle.rules.specs.Positions.{idle}
+use Rattle.std.specs.Prelude.{Some, None, min}
+use Rattle.tasks.specs.declared.timed.Timed.{Timed}
+use Rattle.planner.specs.declared.Word.TheVariants.{Schedule, OutOfRoom}
+use Rattle.planner.specs.declared.search.Choice.{Choice}
+use Rattle.planner.specs.declared.search.Choice.TheVariants.{Task, Idle}
 use Rattle.planner.specs.declared.search.Search.{Search}
 use Rattle.planner.specs.declared.search.Stepped.{Stepped}
-use Rattle.planner.specs.declared.search.Status.TheVariants.{Going, Found, NoRoom}
+use Rattle.planner.specs.declared.search.Stepped.TheVariants.{Going, Ended}
 use Rattle.planner.specs.Rows.{row_tasks}
 use Rattle.planner.specs.Machine as machine
 use Rattle.planner.specs.Machine.{Machine, following, giving, step_of, Tries, Took, once, tries}
-use Rattle.planner.specs.Views.{status_of, machine_of, stepped_of, shut, Trying, Recording, Fits}
+use Rattle.planner.specs.Views.{number_of, machine_of, end_of, Gives, shut, Stepping, Trying, Recording, Fits}
+use Rattle.rules.proofs.Laws.{le-or-lt}
 use Rattle.planner.proofs.Searching.{lt_of}
 
 -- ── the choice behind ───────────────────────────────────────────────────────
 
-pub behind-idle : (n c : ℕ) → n ≤ 8 → 254 < c → 256 ≡ following n c
+pub behind-idle : (n c : ℕ) → c ≡ 255 → 256 ≡ following n c
 unfolding following idle
-behind-idle n c l h = rw (le-ltb (suc c) n (omega arith), le-ltb c 255 (omega arith))
+behind-idle n c e = rw e (go (le-or-lt n 256))
+  where
+    go : (n ≤ 256) ⊎ (256 < n) → 256 ≡ following n 255
+    go (inl h) = rw (le-ltb 256 n h)
+    go (inr h) = rw (lt-ltb 256 n h)
 
-pub behind-last : (n c : ℕ) → c ≤ 254 → n ≤ c + 1 → 255 ≡ following n c
+pub behind-last : (n c : ℕ) → c < 255 → n ≤ c + 1 → 255 ≡ following n c
 unfolding following idle
 behind-last n c l h = rw (le-ltb (suc c) n (omega arith), lt-ltb c 255 (omega arith))
 
@@ -34,48 +44,70 @@ pub behind-task : (n c : ℕ) → c + 1 < n → c + 1 ≡ following n c
 unfolding following idle
 behind-task n c h = rw (lt-ltb (suc c) n (omega arith)) (omega arith)
 
-pub ruleset behind-laws = (behind-idle, behind-last, behind-task)
+-- a task's number is below idle's
+pub task-behind : (n c : ℕ) → c < 255 → c + 1 < n → min (c + 1) 255 ≡ following n c
+task-behind n c l h = let z : min (c + 1) 255 ≡ c + 1 = omega arith in z ∙ behind-task n c h
+
+pub ruleset behind_laws = (behind-idle, behind-last, task-behind)
 
 -- ── one step ────────────────────────────────────────────────────────────────
 
-module _ (n : ℕ) (rows : List ℕ) (h room : ℕ) (at : Search) (t a : List ℕ) (fits : Fits n rows h room at t a) where
-  abbrev s : List Task
+pub number-few : (c : Choice) → number_of c ≤ 255
+number-few (Task c) = omega arith
+number-few Idle = omega arith
+
+module _ (n : ℕ) (rows : List Timed) (h room : ℕ) (at : Search) (t a : List ℕ) (fits : Fits n rows h room at t a) where
+  abbrev s : List model.Task
   s = row_tasks n rows
 
-  pub may-try : (at.slot ≡ h → ⊥) → at.choice ≤ 255 → Trying n rows at t a
-  may-try m k =
+  pub may-try : (choice : Choice) → (at.slot ≡ h → ⊥) → at.choice ≡ Some choice → Trying n rows at choice t a
+  may-try choice m e =
       let u = lt_of at.slot h fits.slots m in let f = fits.few in let l = fits.long in let r = fits.records in let o = fits.holds in
-      record { laid = fits.laid; slots = omega arith; few = omega arith; choices = go fits.choices; records = omega (arith, mul-le-mul_right (suc n) r) }
-    where
-      go : (at.choice < n) ⊎ ((at.choice ≡ 255) ⊎ (at.choice ≡ 256)) → (at.choice < n) ⊎ (at.choice ≡ 255)
-      go (inl l) = inl l
-      go (inr (inl e)) = inr e
-      go (inr (inr e)) = let z : ⊥ = omega arith in absurd z
+      record { laid = fits.laid; slots = omega arith; few = omega arith; tries = e; choices = fits.choices choice e; records = omega (arith, mul-le-mul_right (suc n) r) }
 
-  pub may-record : (room - at.recorded ≡ 0 → ⊥) → Recording n rows at t a
+  pub may-record : (at.recorded ≡ room → ⊥) → Recording n rows at t a
   may-record m =
       let k = fits.records in
-      let u : suc at.recorded ≤ room = lt_of at.recorded room k (λ e. m (omega arith)) in let b = fits.slots in let l = fits.long in let o = fits.holds in
+      let u : suc at.recorded ≤ room = lt_of at.recorded room k m in let b = fits.slots in let l = fits.long in let o = fits.holds in
       record { laid = fits.laid; slots = omega arith; more = omega (arith, mul-le-mul_right (suc n) u) }
 
-  pub list-whole : at.slot ≡ h → Took s room (machine_of n at t a) (status_of Found) (machine_of n at t a)
-  unfolding step_of status_of machine_of
-  list-whole e = once {m = machine_of n at t a} {n = machine_of n at t a} {t = machine.found} (rw (eq-eqb at.slot (hyper s) (e ∙ fits.period)))
+  pub list-whole : at.slot ≡ h → Stepping s room (machine_of n at t a) n (Ended (record { word = Schedule; dead = at.recorded })) t a
+  unfolding step_of machine_of Gives end_of giving
+  list-whole e = record {
+    reached = giving machine.found (machine_of n at t a);
+    took = once {m = machine_of n at t a} {n = machine_of n at t a} {t = machine.found} (rw (eq-eqb at.slot (hyper s) (e ∙ fits.period)));
+    given = record { word_is = refl; counted = refl; table_is = refl; area_is = refl };
+  }
 
   module _ (below : at.slot ≡ h → ⊥) where
     short : eqb at.slot (hyper s) ≡ false
     short = ne_eqb at.slot (hyper s) (λ e. below (e ∙ sym fits.period))
 
-    pub tried : (q : Search) (t' : List ℕ) → at.choice ≤ 255 → Tries s (machine_of n at t a) (machine_of n q t' a) → Took s room (machine_of n at t a) (status_of Going) (machine_of n q t' a)
-    unfolding machine_of status_of idle
-    tried q t' k e = tries short k e
+    pub tried : (q : Search) (t' : List ℕ) (choice : Choice) → at.choice ≡ Some choice → Tries s (machine_of n at t a) (machine_of n q t' a)
+        → Stepping s room (machine_of n at t a) n (Going q) t' a
+    unfolding machine_of Gives idle giving
+    tried q t' choice c e = record {
+      reached = giving machine.going (machine_of n q t' a);
+      took = tries short (rw c (number-few choice)) e;
+      given = refl;
+    }
 
-    module _ (none : 255 < at.choice) where
-      pub room-full : room - at.recorded ≡ 0 → Took s room (machine_of n at t a) (status_of NoRoom) (machine_of n at t a)
-      unfolding step_of status_of machine_of idle
-      room-full e = let w = short in let k = fits.records in once {m = machine_of n at t a} {n = machine_of n at t a} {t = machine.no_room} (rw (w, lt-ltb 255 at.choice none, eq-eqb at.recorded room (omega arith)))
+    module _ (none : at.choice ≡ None) where
+      pub room-full : at.recorded ≡ room → Stepping s room (machine_of n at t a) n (Ended (record { word = OutOfRoom; dead = at.recorded })) t a
+      unfolding step_of machine_of Gives end_of idle giving
+      room-full e = let w = short in record {
+        reached = giving machine.no_room (machine_of n at t a);
+        took = once {m = machine_of n at t a} {n = machine_of n at t a} {t = machine.no_room} (rw (w, none, eq-eqb at.recorded room e));
+        given = record { word_is = refl; counted = refl; table_is = refl; area_is = refl };
+      }
 
-      pub shuts : (q : Stepped) (t' a' : List ℕ) → (room - at.recorded ≡ 0 → ⊥) → stepped_of n q t' a' ≡ shut s (machine_of n at t a)
-          → Took s room (machine_of n at t a) (status_of q.status) (machine_of n q.search t' a')
-      unfolding step_of machine_of stepped_of shut idle
-      shuts q t' a' m e = let w = short in once {m = machine_of n at t a} {n = machine_of n q.search t' a'} {t = status_of q.status} (rw (w, lt-ltb 255 at.choice none, ne_eqb at.recorded room (λ f. m (omega arith))) (sym e))
+      pub shuts : (q : Stepped) (t' a' : List ℕ) → (at.recorded ≡ room → ⊥) → Gives n q t' a' (shut s (machine_of n at t a))
+          → Stepping s room (machine_of n at t a) n q t' a'
+      unfolding step_of machine_of shut idle giving
+      shuts q t' a' m e = let w = short in record {
+        reached = shut s (machine_of n at t a);
+        took = once {m = machine_of n at t a} (rw (w, none, ne_eqb at.recorded room m));
+        given = e;
+      }
+
+pub ruleset step_laws = (may-try, may-record, list-whole, tried, room-full, shuts)

@@ -1,29 +1,34 @@
 -- The choices of a slot, tried one behind the other from one look ahead.
 use mathlib.Core.Path.{◌≡◌, refl, sym, ◌∙◌}
 use mathlib.Core.Logic.{◌⊎◌, inl, inr}
-use mathlib.Core.Bool.{Bool, true, false, not, cond, ◌&&◌, and-false}
+use mathlib.Core.Bool.{Bool, true, false, not, ◌&&◌, and-false}
 use mathlib.Core.List.{List, ◌∷◌}
 use Prim.Native.Nat.{ℕ, zero, suc, ◌+◌, ◌-◌, ◌^◌, ◌≤◌, ◌<◌}
 use native.Mathlib.Numerals.{add-one}
 use native.Mathlib.Omega.{arith}
-use borrow.Author.Tests.{eq-eqb, ne_eqb, lt-ltb, le-ltb}
-use lib.Dec.{eqb, ltb}
+use borrow.Author.Tests.{eq-eqb, ne_eqb, eqb-true, eqb-false}
+use lib.Dec.{eqb}
 use lib.ListN.{length, get_or, take, set}
 use lib.Seq.{length-take-le}
-use Rattle.rules.specs.Tasks.{Task, no_task}
+use Rattle.rules.specs.Tasks as model
+use Rattle.rules.specs.Tasks.{no_task}
 use Rattle.rules.specs.Positions.{idle, ended, next, legal}
-use Rattle.rules.proofs.Lists.{clash-bool, and_parts}
+use Rattle.rules.proofs.Lists.{and_parts}
+use Rattle.std.specs.Prelude.{Option, Some, None}
+use Rattle.tasks.specs.declared.timed.Timed.{Timed}
+use Rattle.planner.specs.declared.search.Choice.{Choice}
+use Rattle.planner.specs.declared.search.Choice.TheVariants.{Task}
 use Rattle.planner.specs.declared.search.Search.{Search}
 use Rattle.planner.specs.Rows.{row_tasks}
 use Rattle.planner.specs.Marks.{mark}
 use Rattle.planner.specs.Area.{among}
-use Rattle.planner.specs.Ahead.{Ahead, leads_by, leads_task, gone, First}
+use Rattle.planner.specs.Ahead.{Ahead, leads_by, leads_task, gone, First, hit, none, led_to}
 use Rattle.planner.specs.Machine.{Machine, following, here, leads_on, pushed, passed_over, Tries, adds, passes, spent}
-use Rattle.planner.specs.Views.{machine_of, Trying}
+use Rattle.planner.specs.Views.{number_of, machine_of, Trying}
 use Rattle.planner.proofs.Marks.{mark-byte}
 use Rattle.planner.proofs.Steps.{behind-idle, behind-last, behind-task}
 use Rattle.planner.proofs.Places.{rows-length}
-use Rattle.planner.proofs.Firsts.{leads-some, first_found, first-missed}
+use Rattle.planner.proofs.Firsts.{leads-some}
 use Rattle.planner.proofs.Judgement.{legal-task, legal-idle, next-task, next-idle, mark-task, gone-ready}
 
 -- the machine with another choice to try
@@ -32,7 +37,7 @@ trying m c = record { slot = m.slot; progress = m.progress; choice = c; recorded
 
 -- ── choices passed over ─────────────────────────────────────────────────────
 
-module _ (s : List Task) (few : length s ≤ 8) (m o : Machine) where
+module _ (s : List model.Task) (few : length s ≤ 8) (m o : Machine) where
   pass : (d e : ℕ) → d ≤ 255 → leads_on s (trying m d) ≡ false → e ≡ following (length s) d → Tries s (trying m e) o → Tries s (trying m d) o
   unfolding passed_over idle
   pass d e l f g t = passes l f (rw g at t)
@@ -52,7 +57,7 @@ module _ (s : List Task) (few : length s ≤ 8) (m o : Machine) where
 
 -- ── from one look ahead ─────────────────────────────────────────────────────
 
-module _ (s : List Task) (n : ℕ) (count : length s ≡ n) (few : length s ≤ 8) (m : Machine) (long : length m.progress ≡ length s) (waits urgent : ℕ) (stay going : List ℕ)
+module _ (s : List model.Task) (n : ℕ) (count : length s ≡ n) (few : length s ≤ 8) (m : Machine) (long : length m.progress ≡ length s) (waits urgent : ℕ) (stay going : List ℕ)
     (eight : length stay ≡ 8) (A : Ahead s m.slot m.progress waits urgent stay going) where
   abbrev test : ℕ → Bool
   test = leads_task n urgent (suc m.slot) m.recorded going stay m.area
@@ -89,27 +94,25 @@ module _ (s : List Task) (n : ℕ) (count : length s ≡ n) (few : length s ≤ 
   -- ── the first choice that leads on ────────────────────────────────────────
 
   -- the machine that a task leads to
-  pub add-task : (c : ℕ) (on : List ℕ) (b : ℕ) → First (leads_task n urgent (suc m.slot) m.recorded going stay m.area) n m.choice c → c < 255
-      → b ≡ 2 ^ c → on ≡ cond (ltb c n) (set stay c (get_or going c 0 - 1)) stay
-      → Tries s m (record { slot = suc m.slot; progress = take n on; choice = 0; recorded = m.recorded; table = set m.table m.slot (waits + b); area = m.area })
-  unfolding leads_task pushed here idle
-  add-task c on b F h e f =
-      let w = first_found F h in
-      let i : c < length s = rw count w.1 in
-      let l = (and_parts (leads_by urgent (get_or going c 0) c) _ w.2).0 in
-      let r = reached c i l in
-      let k = mark-is c i l in
-      pass-tasks s few m _ (c - m.choice) m.choice c (let a = w.0 in omega arith) i (λ d a o. leads-is d (omega arith) ∙ w.3 d a o)
-      (rw (f, lt-ltb c n w.1, r, e, ← k) (adds {m = trying m c} (omega arith) (leads-is c i ∙ w.2)))
+  pub add-task : (c : ℕ) → First (leads_task n urgent (suc m.slot) m.recorded going stay m.area) n m.choice (Some c)
+      → Tries s m (record { slot = suc m.slot; progress = take n (led_to (Some c) going stay); choice = 0; recorded = m.recorded; table = set m.table m.slot (waits + 2 ^ c); area = m.area })
+  unfolding leads_task pushed here idle led_to
+  add-task c (hit from i e f) =
+      let j : c < length s = rw count i in
+      let l = (and_parts (leads_by urgent (get_or going c 0) c) _ e).0 in
+      let r = reached c j l in
+      let k = mark-is c j l in
+      pass-tasks s few m _ (c - m.choice) m.choice c (omega arith) j (λ d a o. leads-is d (omega arith) ∙ f d a o)
+      (rw (r, ← k) (adds {m = trying m c} (omega arith) (leads-is c j ∙ e)))
 
   -- idle, once no task leads on
-  module _ (c : ℕ) (F : First (leads_task n urgent (suc m.slot) m.recorded going stay m.area) n m.choice c) (h : 255 ≤ c) (choices : (m.choice < n) ⊎ (m.choice ≡ 255)) where
+  module _ (F : First (leads_task n urgent (suc m.slot) m.recorded going stay m.area) n m.choice None) (choices : (m.choice < n) ⊎ (m.choice ≡ 255)) where
     to-idle : (o : Machine) → Tries s (trying m 255) o → Tries s m o
-    to-idle o t = go choices
+    to-idle o t = go F choices
       where
-        go : (m.choice < n) ⊎ (m.choice ≡ 255) → Tries s m o
-        go (inl l) = pass_all s few m o m.choice (omega arith) (λ d a b. leads-is d b ∙ first-missed F (omega arith) h d a (omega arith)) t
-        go (inr e) = rw (← e) at t
+        go : First (leads_task n urgent (suc m.slot) m.recorded going stay m.area) n m.choice None → (m.choice < n) ⊎ (m.choice ≡ 255) → Tries s m o
+        go (none f) (inl l) = pass_all s few m o m.choice (omega arith) (λ d a b. leads-is d b ∙ f d a (omega arith)) t
+        go f (inr e) = rw (← e) at t
 
     pub add-idle : urgent ≡ 256 → among (suc n) m.area (suc m.slot ∷ take n stay) m.recorded ≡ false
         → Tries s m (record { slot = suc m.slot; progress = take n stay; choice = 0; recorded = m.recorded; table = set m.table m.slot waits; area = m.area })
@@ -119,7 +122,7 @@ module _ (s : List Task) (n : ℕ) (count : length s ≡ n) (few : length s ≤ 
 
     all-tried : leads_on s (trying m 255) ≡ false → Tries s m (trying m 256)
     unfolding idle
-    all-tried e = to-idle _ (pass s few m _ 255 256 (omega arith) e (behind-idle (length s) 255 few (omega arith)) (spent {m = trying m 256} (omega arith)))
+    all-tried e = to-idle _ (pass s few m _ 255 256 (omega arith) e (behind-idle (length s) 255 refl) (spent {m = trying m 256} (omega arith)))
 
     pub idle-seen : among (suc n) m.area (suc m.slot ∷ take n stay) m.recorded ≡ true → Tries s m (trying m 256)
     idle-seen f = all-tried (idle-is ∙ rw f (and-false (eqb urgent 256)))
@@ -129,11 +132,12 @@ module _ (s : List Task) (n : ℕ) (count : length s ≡ n) (few : length s ≤ 
 
 -- ── in the code's terms ─────────────────────────────────────────────────────
 
-module _ (n : ℕ) (rows : List ℕ) (at : Search) (table area : List ℕ) (R : Trying n rows at table area) (waits urgent : ℕ) (stay going : List ℕ)
-    (A : Ahead (row_tasks n rows) at.slot (take n at.progress) waits urgent stay going) (c : ℕ)
-    (F : First (leads_task n urgent (at.slot + 1) at.recorded going stay area) n at.choice c) (whole : 8 ≡ length at.progress) (eight : 8 ≡ length stay) where
+module _ (n : ℕ) (rows : List Timed) (at : Search) (choice : Choice) (table area : List ℕ) (R : Trying n rows at choice table area) (waits urgent : ℕ) (stay going : List ℕ)
+    (A : Ahead (row_tasks n rows) at.slot (take n at.progress) waits urgent stay going) (r : Option ℕ)
+    (F : First (leads_task n urgent (at.slot + 1) at.recorded going stay area) n (number_of choice) r) (whole : 8 ≡ length at.progress) (eight : 8 ≡ length stay)
+    (on : List ℕ) (led : on ≡ led_to r going stay) where
   abbrev start : Machine
-  start = record { slot = at.slot; progress = take n at.progress; choice = at.choice; recorded = at.recorded; table = table; area = area }
+  start = record { slot = at.slot; progress = take n at.progress; choice = number_of choice; recorded = at.recorded; table = table; area = area }
 
   count : length (row_tasks n rows) ≡ n
   count = rows-length n rows
@@ -144,51 +148,52 @@ module _ (n : ℕ) (rows : List ℕ) (at : Search) (table area : List ℕ) (R : 
   long : length (take n at.progress) ≡ length (row_tasks n rows)
   long = let f = R.laid.few in length-take-le n at.progress (omega arith) ∙ sym (rows-length n rows)
 
-  first-is : First (leads_task n urgent (suc at.slot) at.recorded going stay area) n at.choice c
-  first-is = rw (add-one at.slot) at F
+  first-is : (k : Option ℕ) → r ≡ k → First (leads_task n urgent (suc at.slot) at.recorded going stay area) n (number_of choice) k
+  first-is k e = rw (e, add-one at.slot) at F
 
-  pub task-few : c < 255 → c < 8
-  task-few h = let w = first_found F h in let f = R.laid.few in let k = w.1 in omega arith
-
-  pub mark-fits : (b : ℕ) → c < 255 → b ≡ 2 ^ c → waits + b < 256
-  unfolding leads_task
-  mark-fits b h e =
-      let w = first_found F h in
-      let i : c < length (row_tasks n rows) = rw (rows-length n rows) w.1 in
-      let l = (and_parts (leads_by urgent (get_or going c 0) c) _ w.2).0 in
-      rw (e, ← mark-is (row_tasks n rows) n count few start long waits urgent stay going (sym eight) A c i l)
-      (mark-byte (take n at.progress) _ (omega (arith, few, long)))
-
-  pub adds-task : (on : List ℕ) (b : ℕ) → c < 255 → b ≡ 2 ^ c → on ≡ cond (ltb c n) (set stay c (get_or going c 0 - 1)) stay
-      → Tries (row_tasks n rows) (machine_of n at table area) (machine_of n (record { slot = at.slot + 1; progress = on; choice = 0; recorded = at.recorded }) (set table at.slot (waits + b)) area)
-  unfolding machine_of
-  adds-task on b h e f = rw (add-one at.slot) (add-task (row_tasks n rows) n count few start long waits urgent stay going (sym eight) A c on b first-is h e f)
-
-  module _ (h : 255 ≤ c) (on : List ℕ) (f : on ≡ cond (ltb c n) (set stay c (get_or going c 0 - 1)) stay) where
-    on-is : on ≡ stay
-    on-is = let k = R.laid.few in f ∙ rw (le-ltb c n (omega arith))
-
-    seen-is : (q b : Bool) → q ≡ among (n + 1) area ((at.slot + 1) ∷ take n on) at.recorded → not q ≡ not b → among (suc n) area (suc at.slot ∷ take n stay) at.recorded ≡ b
-    seen-is q b e g = rw (add-one n, add-one at.slot, on-is) at (sym e) ∙ same q b g
+  module _ (c : ℕ) (some : r ≡ Some c) where
+    pub task-few : c < 8
+    task-few = go (first-is (Some c) some)
       where
-        same : (q b : Bool) → not q ≡ not b → q ≡ b
-        same true true g = refl
-        same true false g = clash-bool g
-        same false true g = clash-bool (sym g)
-        same false false g = refl
+        go : First (leads_task n urgent (suc at.slot) at.recorded going stay area) n (number_of choice) (Some c) → c < 8
+        go (hit a b e f) = let k = R.laid.few in omega arith
 
-    pub adds-idle : (q : Bool) → urgent ≡ 256 → q ≡ among (n + 1) area ((at.slot + 1) ∷ take n on) at.recorded → not q ≡ true
-        → Tries (row_tasks n rows) (machine_of n at table area) (machine_of n (record { slot = at.slot + 1; progress = on; choice = 0; recorded = at.recorded }) (set table at.slot waits) area)
+    pub mark-fits : (b : ℕ) → b ≡ 2 ^ c → waits + b < 256
+    unfolding leads_task
+    mark-fits b q = go (first-is (Some c) some)
+      where
+        go : First (leads_task n urgent (suc at.slot) at.recorded going stay area) n (number_of choice) (Some c) → waits + b < 256
+        go (hit a j e f) =
+            let i : c < length (row_tasks n rows) = rw (rows-length n rows) j in
+            let l = (and_parts (leads_by urgent (get_or going c 0) c) _ e).0 in
+            rw (q, ← mark-is (row_tasks n rows) n count few start long waits urgent stay going (sym eight) A c i l)
+            (mark-byte (take n at.progress) _ (omega (arith, few, long)))
+
+    pub adds-task : (b mark : ℕ) → b ≡ 2 ^ c → mark ≡ waits + b
+        → Tries (row_tasks n rows) (machine_of n at table area) (machine_of n (record { slot = at.slot + 1; progress = on; choice = Some (Task 0); recorded = at.recorded }) (set table at.slot mark) area)
     unfolding machine_of
-    adds-idle q u e g =
-        rw (add-one at.slot, on-is) (add-idle (row_tasks n rows) n count few start long waits urgent stay going (sym eight) A c first-is h R.choices u (seen-is q false e g))
+    adds-task b mark q e = rw (R.tries, add-one at.slot, led, some, e, q) (add-task (row_tasks n rows) n count few start long waits urgent stay going (sym eight) A c (first-is (Some c) some))
 
-    pub spent_seen : (q : Bool) → q ≡ among (n + 1) area ((at.slot + 1) ∷ take n on) at.recorded → not q ≡ false
-        → Tries (row_tasks n rows) (machine_of n at table area) (machine_of n (record { slot = at.slot; progress = at.progress; choice = 256; recorded = at.recorded }) table area)
+  module _ (no : r ≡ None) where
+    on-is : on ≡ stay
+    unfolding led_to
+    on-is = led ∙ rw no
+
+    seen-is : (q b : Bool) → q ≡ among (n + 1) area ((at.slot + 1) ∷ take n on) at.recorded → q ≡ b → among (suc n) area (suc at.slot ∷ take n stay) at.recorded ≡ b
+    seen-is q b e g = rw (add-one n, add-one at.slot, on-is) at (sym e) ∙ g
+
+    pub adds-idle : (q : Bool) (mark : ℕ) (free : Bool) → free ≡ eqb urgent 256 → free ≡ true → q ≡ among (n + 1) area ((at.slot + 1) ∷ take n on) at.recorded → q ≡ false → mark ≡ waits
+        → Tries (row_tasks n rows) (machine_of n at table area) (machine_of n (record { slot = at.slot + 1; progress = on; choice = Some (Task 0); recorded = at.recorded }) (set table at.slot mark) area)
     unfolding machine_of
-    spent_seen q e g = idle-seen (row_tasks n rows) n count few start long waits urgent stay going (sym eight) A c first-is h R.choices (seen-is q true e g)
+    adds-idle q mark free u w e g i =
+        rw (R.tries, add-one at.slot, on-is, i) (add-idle (row_tasks n rows) n count few start long waits urgent stay going (sym eight) A (first-is None no) R.choices (eqb-true urgent 256 (sym u ∙ w)) (seen-is q false e g))
 
-  pub spent-urgent : 255 ≤ c → (urgent ≡ 256 → ⊥)
-      → Tries (row_tasks n rows) (machine_of n at table area) (machine_of n (record { slot = at.slot; progress = at.progress; choice = 256; recorded = at.recorded }) table area)
-  unfolding machine_of
-  spent-urgent h e = idle-not (row_tasks n rows) n count few start long waits urgent stay going (sym eight) A c first-is h R.choices e
+    pub spent_seen : (q : Bool) → q ≡ among (n + 1) area ((at.slot + 1) ∷ take n on) at.recorded → q ≡ true
+        → Tries (row_tasks n rows) (machine_of n at table area) (machine_of n (record { slot = at.slot; progress = at.progress; choice = None; recorded = at.recorded }) table area)
+    unfolding machine_of
+    spent_seen q e g = rw R.tries (idle-seen (row_tasks n rows) n count few start long waits urgent stay going (sym eight) A (first-is None no) R.choices (seen-is q true e g))
+
+    pub spent-urgent : (free : Bool) → free ≡ eqb urgent 256 → free ≡ false
+        → Tries (row_tasks n rows) (machine_of n at table area) (machine_of n (record { slot = at.slot; progress = at.progress; choice = None; recorded = at.recorded }) table area)
+    unfolding machine_of
+    spent-urgent free u w = rw R.tries (idle-not (row_tasks n rows) n count few start long waits urgent stay going (sym eight) A (first-is None no) R.choices (eqb-false urgent 256 (sym u ∙ w)))

@@ -1,10 +1,23 @@
 -- What a slot does to each task, chosen and not. Every choice of the slot is judged from it.
-use Rattle.std.specs.Prelude.{◌≡◌, Bool, true, false, not, cond, ◌&&◌, ◌||◌, List, [], ◌∷◌, ℕ, suc, ◌-◌, ◌≤◌, ◌<◌, eqb, length, get_or, take, set}
+use Rattle.std.specs.Prelude.{◌≡◌, Bool, true, false, not, cond, ◌&&◌, ◌||◌, List, [], ◌∷◌, ℕ, suc, ◌-◌, ◌≤◌, ◌<◌, eqb, length, get_or, take, set, Option, Some, None}
 use Rattle.rules.specs.Tasks.{Task, no_task, standing, is_ready}
 use Rattle.rules.specs.Positions.{idle, moved, ended}
 use Rattle.tasks.specs.Slots.{onward, well_after}
 use Rattle.planner.specs.Marks.{mark}
 use Rattle.planner.specs.Area.{among}
+use Rattle.planner.specs.declared.ahead.Urgent.{Urgent}
+use Rattle.planner.specs.declared.ahead.Urgent.TheVariants.{Nobody, Only, Several}
+
+-- one more than a progress, 0 where there is none
+abbrev pub one_more : Option ℕ → ℕ
+one_more None = 0
+one_more (Some p) = suc p
+
+-- the task that has to be chosen, by its number less 1: 256 for none, 257 for more than one
+abbrev pub urgent_of : Urgent → ℕ
+urgent_of Nobody = 256
+urgent_of (Only i) = i
+urgent_of Several = 257
 
 -- a task's progress at the end of a slot in which it is not chosen
 unfoldable pub stayed : Task → ℕ → ℕ
@@ -13,6 +26,14 @@ stayed τ p = moved (standing τ p) false p
 -- where a task is ready, and chosen ends the slot well: one more than its progress in the next slot; else 0
 unfoldable pub gone : ℕ → Task → ℕ → ℕ
 gone t τ p = cond (is_ready (standing τ p) && well_after t τ (suc p)) (suc (onward t τ (suc p))) 0
+
+-- what slot t does to a task of progress p: whether its progress rises unchosen, whether it ends the slot well unchosen, its progress in the next
+-- slot unchosen, and one more than that chosen
+pub record IsWay (t : ℕ) (τ : Task) (p : ℕ) (rises well : Bool) (stay go : ℕ) : Type 0 where
+  pub rising : rises ≡ not (eqb p (stayed τ p))
+  pub ending : well ≡ well_after t τ (stayed τ p)
+  pub staying : stay ≡ onward t τ (stayed τ p)
+  pub going : go ≡ gone t τ p
 
 -- one more task, of number i + 1, that ends the slot well unchosen or not
 unfoldable pub claim : ℕ → Bool → ℕ → ℕ
@@ -40,7 +61,12 @@ pub record Ahead (s : List Task) (t : ℕ) (ps : List ℕ) (waits urgent : ℕ) 
 unfoldable pub leads_task : ℕ → ℕ → ℕ → ℕ → List ℕ → List ℕ → List ℕ → ℕ → Bool
 leads_task n urgent slot recorded go stay area c = leads_by urgent (get_or go c 0) c && not (among (suc n) area (slot ∷ take n (set stay c (get_or go c 0 - 1))) recorded)
 
--- the first number from `from` on, below n, that passes a test, or 255
-pub data First (test : ℕ → Bool) (n from : ℕ) : ℕ → Type 0 where
-  hit : {c : ℕ} → from ≤ c → c < n → test c ≡ true → ((d : ℕ) → from ≤ d → d < c → test d ≡ false) → First test n from c
-  none : ((d : ℕ) → from ≤ d → d < n → test d ≡ false) → First test n from 255
+-- the first number from `from` on, below n, that passes a test, or none
+pub data First (test : ℕ → Bool) (n from : ℕ) : Option ℕ → Type 0 where
+  hit : {c : ℕ} → from ≤ c → c < n → test c ≡ true → ((d : ℕ) → from ≤ d → d < c → test d ≡ false) → First test n from (Some c)
+  none : ((d : ℕ) → from ≤ d → d < n → test d ≡ false) → First test n from None
+
+-- the progress in the next slot once a task is chosen, or none is
+unfoldable pub led_to : Option ℕ → List ℕ → List ℕ → List ℕ
+led_to (Some c) go stay = set stay c (get_or go c 0 - 1)
+led_to None go stay = stay

@@ -15,61 +15,49 @@ use crate::area::fill;
 use crate::mark::spell;
 use crate::rows::lay_out;
 use crate::search::run;
-use tasks::TaskSet;
-use tasks::position::live;
-use tasks::set::{judge, tasks_in};
+use tasks::{Position, Refusal, TaskSet};
 
-#[derive(Clone, Copy)]
+#[derive(Clone, Copy, Debug, PartialEq, Eq)]
 pub enum Word {
     Schedule,
     Infeasible,
     OutOfRoom,
 }
 
-// A refusal is its number alone; another answer is a word and a count of dead positions.
-#[derive(Clone, Copy)]
-pub enum Answer {
-    Refused(u8),
-    Answered(Word, usize),
+// A word, and the number of dead positions that were recorded.
+#[derive(Clone, Copy, Debug, PartialEq, Eq)]
+pub struct Answer {
+    pub word: Word,
+    pub dead: usize,
 }
 
 // The reply to a task set: what is returned, and what the lent table and area hold afterwards.
-pub fn plan(set: TaskSet, table: &mut [u8], area: &mut [u16]) -> Answer
-    ensures { PlanReply (record_of set) table.old area.old (answer_of result) table.new area.new }
+pub fn plan(set: &TaskSet, table: &mut [u8], area: &mut [u16]) -> Result<Answer, Refusal>
+    ensures { PlanReply (record_of set.now) table.old area.old (answer_of result) table.new area.new }
 {
-    let judged = judge(set);
-    let refusal = judged.refusal;
-    if refusal != 0 {
-        return Answer::Refused(refusal);
-    }
-    let h = judged.hyper;
+    let h = set.admit()?;
     let slots = h as usize;
     if table.len() < slots {
-        return Answer::Refused(7);
+        return Err(Refusal::ShortTable);
     }
-    if !live(set, 0, [0u16; 8]) {
+    let start = Position {
+        slot: 0,
+        progress: [0; 8],
+    };
+    if !set.is_live(&start) {
         fill(table, slots);
-        return Answer::Answered(Word::Infeasible, 0);
+        return Ok(Answer {
+            word: Word::Infeasible,
+            dead: 0,
+        });
     }
-    let n = tasks_in(set);
+    let n = set.used().len();
     let room = area.len() / (n + 1);
-    let mut rows = [0u16; 128];
-    lay_out(set, &mut rows);
-    let ended = run(&rows, n, h, room, table, area);
-    let word = ended.word;
-    let recorded = ended.recorded;
-    match word {
-        Word::Schedule => {
-            spell(&rows, n, table, h);
-            Answer::Answered(Word::Schedule, recorded)
-        }
-        Word::Infeasible => {
-            fill(table, slots);
-            Answer::Answered(Word::Infeasible, recorded)
-        }
-        Word::OutOfRoom => {
-            fill(table, slots);
-            Answer::Answered(Word::OutOfRoom, recorded)
-        }
+    let rows = lay_out(set);
+    let answer = run(&rows, n, h, room, table, area);
+    match answer.word {
+        Word::Schedule => spell(&rows, n, table, h),
+        Word::Infeasible | Word::OutOfRoom => fill(table, slots),
     }
+    Ok(answer)
 }

@@ -1,178 +1,160 @@
 // The search for the first schedule: a step adds the first choice that leads on or finds none, or records one dead position and takes back one
 // choice of the list under trial.
-ghost use Rattle.std.specs.Prelude.{◌≡◌, cond, suc, ◌-◌, ◌*◌, ◌≤◌, ltb, length, get_or, set};
+ghost use Rattle.std.specs.Prelude.{◌≡◌, suc, ◌*◌, ◌≤◌, length, map};
 ghost use Rattle.planner.specs.Rows.{row_tasks};
-ghost use Rattle.planner.specs.Ahead.{leads_task, First};
-ghost use Rattle.planner.specs.Machine.{following, opened, Tries, Took};
-ghost use Rattle.planner.specs.Views.{status_of, machine_of, stepped_of, shut, Trying, Recording, Fits, Opening, end_of, Ran};
+ghost use Rattle.planner.specs.Ahead.{one_more, urgent_of, leads_task, First, led_to};
+ghost use Rattle.planner.specs.Machine.{following, opened, Tries};
+ghost use Rattle.planner.specs.Views.{number_of, number_in, machine_of, shut, Trying, Recording, Fits, Opening, Gives, Stepping, end_of, Ran};
 
-use crate::Word;
-use crate::ahead::{bit_of, leads, look_ahead};
+use crate::ahead::{Urgent, bit_of, look_ahead};
 use crate::area::{put, seen};
 use crate::mark::{choice_from, take_back};
+use crate::{Answer, Word};
+use tasks::IDLE;
+use tasks::timed::Timed;
 
-// The position that the list under trial leads to, the choice to try behind it (256: all are tried), and the number of records.
-#[derive(Clone, Copy)]
+// A choice to try in a slot: a task, by its number less 1, or idle.
+#[derive(Clone, Copy, Debug, PartialEq, Eq)]
+pub enum Choice {
+    Task(u8),
+    Idle,
+}
+
+// The position that the list under trial leads to, the choice to try behind it (none: all are tried), and the number of records.
+#[derive(Clone, Copy, Debug, PartialEq, Eq)]
 pub struct Search {
     pub slot: u16,
     pub progress: [u16; 8],
-    pub choice: u16,
+    pub choice: Option<Choice>,
     pub recorded: usize,
 }
 
-#[derive(Clone, Copy)]
-pub enum Status {
-    Going,
-    Found,
-    Failed,
-    NoRoom,
+// What a step gives: a search to go on with, or the answer that ends it.
+#[derive(Clone, Copy, Debug, PartialEq, Eq)]
+pub enum Stepped {
+    Going(Search),
+    Ended(Answer),
 }
 
-#[derive(Clone, Copy)]
-pub struct Stepped {
-    pub status: Status,
-    pub search: Search,
-}
-
-// The choice to try behind c: the tasks in their order, then idle, then none.
-fn choice_behind(n: usize, c: u16) -> u16
-    requires { n ≤ 8 }
-    ensures { result ≡ following n c }
+#[tactic(auto, using(crate::proofs::Steps::behind_laws))]
+// The choice to try behind that of a slot: the tasks in their order, then idle, then none.
+fn choice_behind(n: usize, choice: u8) -> Option<Choice>
+    ensures { number_in result ≡ following n choice }
 {
-    if 254 < c {
-        return 256;
+    match choice {
+        IDLE => None,
+        c if (c as usize) + 1 < n => Some(Choice::Task(c + 1)),
+        _ => Some(Choice::Idle),
     }
-    let on = c + 1;
-    if n <= on as usize {
-        return 255;
-    }
-    on
 }
 
-// The first task from `from` on that leads to a position which is not recorded, or 255. Then `stay` holds that position's progress.
+#[tactic(auto, using(crate::proofs::Firsts::first_laws))]
+// The first task, from the choice to try on, that leads to a position which is not recorded. Then `stay` holds that position's progress.
 fn first_task(
     n: usize,
-    from: u16,
-    urgent: u16,
+    choice: Choice,
+    urgent: Urgent,
     slot: u16,
     recorded: usize,
-    go: &[u16],
-    stay: &mut [u16],
+    go: &[Option<u16>; 8],
+    stay: &mut [u16; 8],
     area: &[u16],
-) -> u16
+) -> Option<usize>
     requires n_bound { n ≤ 8 }
-    requires go_len { length go.now ≡ 8 }
-    requires stay_len { length stay.old ≡ 8 }
     requires n_in_bounds { recorded * suc n ≤ length area.now }
-    ensures first { First (leads_task n urgent slot recorded go.now stay.old area.now) n from result }
-    ensures reached { stay.new ≡ cond (ltb result n) (set stay.old result (get_or go.now result 0 - 1)) stay.old }
+    ensures first { First (leads_task n (urgent_of urgent) slot recorded (map one_more go.now) stay.old area.now) n (number_of choice) result }
+    ensures reached { stay.new ≡ led_to result (map one_more go.now) stay.old }
 {
-    let mut i = from as usize;
-    while i < n {
-        let to = go[i];
-        if leads(urgent, to, i as u16) {
-            let unchosen = stay[i];
-            stay[i] = to - 1;
-            if !seen(area, recorded, n, slot, stay) {
-                return i as u16;
+    let Choice::Task(from) = choice else {
+        return None;
+    };
+    for i in from as usize..n {
+        if let Some(to) = go[i] {
+            if urgent.allows(i as u8) {
+                let unchosen = stay[i];
+                stay[i] = to;
+                if !seen(area, recorded, n, slot, stay) {
+                    return Some(i);
+                }
+                stay[i] = unchosen;
             }
-            stay[i] = unchosen;
         }
-        i += 1;
     }
-    255
+    None
 }
 
 // The first choice that leads to a live position which is not recorded is added to the list; where there is none, all are tried.
-fn lead_on(rows: &[u16], n: usize, at: Search, table: &mut [u8], area: &[u16]) -> Search
-    requires { Trying n rows.now at table.old area.now }
+fn lead_on(
+    rows: &[Timed; 8],
+    n: usize,
+    at: Search,
+    choice: Choice,
+    table: &mut [u8],
+    area: &[u16],
+) -> Search
+    requires { Trying n rows.now at choice table.old area.now }
     ensures { Tries (row_tasks n rows.now) (machine_of n at table.old area.now) (machine_of n result table.new area.now) }
 {
     let slot = at.slot;
-    let progress = at.progress;
     let recorded = at.recorded;
-    let mut stay = [0u16; 8];
-    let mut go = [0u16; 8];
-    let ahead = look_ahead(rows, n, slot, &progress, &mut stay, &mut go);
-    let c = first_task(
+    let ahead = look_ahead(rows, n, slot, &at.progress);
+    let mut stay = ahead.stay;
+    let task = first_task(
         n,
-        at.choice,
+        choice,
         ahead.urgent,
         slot + 1,
         recorded,
-        &go,
+        &ahead.go,
         &mut stay,
         area,
     );
-    let i = slot as usize;
-    if c < 255 {
-        table[i] = ahead.waits + bit_of(c as usize);
-        return Search {
-            slot: slot + 1,
-            progress: stay,
-            choice: 0,
-            recorded,
-        };
-    }
-    if ahead.urgent == 256 {
-        if !seen(area, recorded, n, slot + 1, &stay) {
-            table[i] = ahead.waits;
-            return Search {
-                slot: slot + 1,
-                progress: stay,
-                choice: 0,
-                recorded,
-            };
-        }
-    }
+    let mark = match task {
+        Some(c) => ahead.waits + bit_of(c),
+        None if ahead.urgent.is_nobody() && !seen(area, recorded, n, slot + 1, &stay) => ahead.waits,
+        None => return Search { choice: None, ..at },
+    };
+    table[slot as usize] = mark;
     Search {
-        slot,
-        progress,
-        choice: 256,
+        slot: slot + 1,
+        progress: stay,
+        choice: Some(Choice::Task(0)),
         recorded,
     }
 }
 
+#[tactic(auto, using(crate::proofs::Backs::back_laws))]
 // With no choice left to try the position is dead: it is recorded, and the last choice taken back.
-fn record_dead(rows: &[u16], n: usize, at: Search, table: &[u8], area: &mut [u16]) -> Stepped
+fn record_dead(rows: &[Timed; 8], n: usize, at: Search, table: &[u8], area: &mut [u16]) -> Stepped
     requires { Recording n rows.now at table.now area.old }
-    ensures { stepped_of n result table.now area.new ≡ shut (row_tasks n rows.now) (machine_of n at table.now area.old) }
+    ensures { Gives n result table.now area.new (shut (row_tasks n rows.now) (machine_of n at table.now area.old)) }
 {
     let slot = at.slot;
     let progress = at.progress;
-    let recorded = at.recorded;
-    put(area, recorded, n, slot, progress);
-    let more = recorded + 1;
+    put(area, at.recorded, n, slot, &progress);
+    let recorded = at.recorded + 1;
     if slot == 0 {
-        return Stepped {
-            status: Status::Failed,
-            search: Search {
-                slot,
-                progress,
-                choice: at.choice,
-                recorded: more,
-            },
-        };
+        return Stepped::Ended(Answer {
+            word: Word::Infeasible,
+            dead: recorded,
+        });
     }
     let last = slot - 1;
-    let i = last as usize;
-    let mark = table[i];
+    let mark = table[last as usize];
     let before = take_back(rows, n, slot, progress, mark);
     let choice = choice_from(rows, n, &before, mark);
-    Stepped {
-        status: Status::Going,
-        search: Search {
-            slot: last,
-            progress: before,
-            choice: choice_behind(n, choice as u16),
-            recorded: more,
-        },
-    }
+    Stepped::Going(Search {
+        slot: last,
+        progress: before,
+        choice: choice_behind(n, choice),
+        recorded,
+    })
 }
 
+#[tactic(auto, using(crate::proofs::Steps::step_laws))]
 // One step of the search, of a hyper-period of h slots, in an area with room for so many records.
 fn step(
-    rows: &[u16],
+    rows: &[Timed; 8],
     n: usize,
     h: u16,
     room: usize,
@@ -181,82 +163,46 @@ fn step(
     area: &mut [u16],
 ) -> Stepped
     requires { Fits n rows.now h room at table.old area.old }
-    ensures { Took (row_tasks n rows.now) room (machine_of n at table.old area.old) (status_of result.status) (machine_of n result.search table.new area.new) }
+    ensures { Stepping (row_tasks n rows.now) room (machine_of n at table.old area.old) n result table.new area.new }
 {
     if at.slot == h {
-        return Stepped {
-            status: Status::Found,
-            search: at,
-        };
+        return Stepped::Ended(Answer {
+            word: Word::Schedule,
+            dead: at.recorded,
+        });
     }
-    if at.choice <= 255 {
-        return Stepped {
-            status: Status::Going,
-            search: lead_on(rows, n, at, table, area),
-        };
+    match at.choice {
+        Some(choice) => Stepped::Going(lead_on(rows, n, at, choice, table, area)),
+        None if at.recorded == room => Stepped::Ended(Answer {
+            word: Word::OutOfRoom,
+            dead: at.recorded,
+        }),
+        None => record_dead(rows, n, at, table, area),
     }
-    let left = room - at.recorded;
-    if left == 0 {
-        return Stepped {
-            status: Status::NoRoom,
-            search: at,
-        };
-    }
-    record_dead(rows, n, at, table, area)
-}
-
-// How a search ended, with the number of records.
-#[derive(Clone, Copy)]
-pub struct Ended {
-    pub word: Word,
-    pub recorded: usize,
 }
 
 // The search from its start to its end.
 pub(crate) fn run(
-    rows: &[u16],
+    rows: &[Timed; 8],
     n: usize,
     h: u16,
     room: usize,
     table: &mut [u8],
     area: &mut [u16],
-) -> Ended
+) -> Answer
     requires { Opening n rows.now h room table.old area.old }
-    ensures { Ran (row_tasks n rows.now) room (opened (row_tasks n rows.now) table.old area.old) (end_of result.word) result.recorded table.new area.new }
+    ensures { Ran (row_tasks n rows.now) room (opened (row_tasks n rows.now) table.old area.old) (end_of result.word) result.dead table.new area.new }
 {
     let mut at = Search {
         slot: 0,
-        progress: [0u16; 8],
-        choice: 0,
+        progress: [0; 8],
+        choice: Some(Choice::Task(0)),
         recorded: 0,
     };
     loop {
-        let took = step(rows, n, h, room, at, table, area);
-        let reached = took.search;
-        let recorded = reached.recorded;
-        let status = took.status;
-        match status {
-            Status::Going => {
-                at = reached;
-            }
-            Status::Found => {
-                return Ended {
-                    word: Word::Schedule,
-                    recorded,
-                };
-            }
-            Status::Failed => {
-                return Ended {
-                    word: Word::Infeasible,
-                    recorded,
-                };
-            }
-            Status::NoRoom => {
-                return Ended {
-                    word: Word::OutOfRoom,
-                    recorded,
-                };
-            }
+        match step(rows, n, h, room, at, table, area) {
+            Stepped::Going(on) => at = on,
+            Stepped::Ended(answer) => return answer,
         }
     }
 }

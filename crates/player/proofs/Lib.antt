@@ -1,6 +1,7 @@
 pub mod Views
 pub mod Arrays
 pub mod Tests
+pub mod Forms
 pub mod Turns
 pub mod Starts
 pub mod Rounds

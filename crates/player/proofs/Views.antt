@@ -33,3 +33,7 @@ eight-same p e = let l = eight-length p in ext_get_or 0 (eight p) p (omega arith
 pub jobs-length : (js : List Job) → length (jobs_of js) ≡ 8
 unfolding jobs_of job
 jobs-length js = tabulate-length (job js) 0 8
+
+pub jobs-at : (js : List Job) (i : ℕ) (d : model.Job) → i < 8 → get_or (jobs_of js) i d ≡ job_of (get_or js i no_job)
+unfolding jobs_of job
+jobs-at js i d h = tabulate-at (job js) 0 8 i d h ∙ ap (job js) (omega arith)

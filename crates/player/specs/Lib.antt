@@ -4,3 +4,5 @@ pub mod Bytes
 pub mod Widths
 pub mod Boundary
 pub mod Looks
+pub mod Forms
+pub mod Tested

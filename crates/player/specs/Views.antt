@@ -1,5 +1,5 @@
 -- What the player's structs stand for in the rules. Arrays are read by place.
-use Rattle.std.specs.Prelude.{ℕ, List, get_or}
+use Rattle.std.specs.Prelude.{ℕ, List, get_or, Option, Some, None}
 use Rattle.rules.specs.Lists.{tabulate}
 use Rattle.rules.specs.Jobs as model
 use Rattle.rules.specs.States.{StateRecord}
@@ -36,5 +36,10 @@ eight p = tabulate (λ i. get_or p i 0) 0 8
 unfoldable pub jobs_of : List Job → List model.Job
 jobs_of js = tabulate (λ i. job_of (get_or js i no_job)) 0 8
 
+-- who ran last, by number: 255 for nobody
+abbrev pub runner_number : Option ℕ → ℕ
+runner_number None = 255
+runner_number (Some i) = i
+
 unfoldable pub state_of : State → StateRecord
-state_of st = record { set = record_of st.set; slot = st.slot; planned = eight st.planned; jobs = jobs_of st.jobs; last = st.last }
+state_of st = record { set = record_of st.set; slot = st.slot; planned = eight st.planned; jobs = jobs_of st.jobs; last = runner_number st.last }

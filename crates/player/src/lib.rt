@@ -6,6 +6,7 @@ use tasks::set::judge;
 
 pub mod begin;
 pub mod codec;
+pub mod form;
 pub mod look;
 pub mod round;
 pub mod strings;
@@ -23,7 +24,7 @@ use round::tick_refused;
 use strings::tick_string;
 
 // Why a job was stopped.
-#[derive(Clone, Copy)]
+#[derive(Clone, Copy, Debug, PartialEq, Eq)]
 pub enum Cause {
     Overrun,
     Late,
@@ -31,8 +32,9 @@ pub enum Cause {
 }
 
 // How a job stands.
-#[derive(Clone, Copy)]
+#[derive(Clone, Copy, Debug, Default, PartialEq, Eq)]
 pub enum Stand {
+    #[default]
     Ready,
     Waiting,
     Done,
@@ -40,21 +42,21 @@ pub enum Stand {
 }
 
 // A task's job: how it stands, its step from 0, and the slots given in that step. Parts not in use are zero.
-#[derive(Clone, Copy)]
+#[derive(Clone, Copy, Debug, Default, PartialEq, Eq)]
 pub struct Job {
     pub stand: Stand,
     pub step: u8,
     pub given: u8,
 }
 
-// The player's state: the task set, the slot, the planned progress and the job of each task, and who ran last (255: nobody).
-#[derive(Clone, Copy)]
+// The player's state: the task set, the slot, the planned progress and the job of each task, and who ran last, if anybody did.
+#[derive(Clone, Copy, Debug, Default, PartialEq, Eq)]
 pub struct State {
     pub set: TaskSet,
     pub slot: u16,
     pub planned: [u16; 8],
     pub jobs: [Job; 8],
-    pub last: u8,
+    pub last: Option<u8>,
 }
 
 // The reply to a start. On a refusal the state is blank.

@@ -4,3 +4,4 @@ pub mod Multiple
 pub mod Refusals
 pub mod Positions
 pub mod Slotwise
+pub mod Timing

@@ -1,4 +1,6 @@
 -- Laws of one task: its pattern walked entry by entry, where progress stands in it, and its laxity in 32 bits.
+use Rattle.std.specs.Prelude.{min}
+use Rattle.std.specs.List.{fold}
 use mathlib.Core.Path.{◌≡◌, refl, sym, ap, ap₂, ◌∙◌}
 use mathlib.Core.Logic.{◌⊎◌, inl, inr}
 use mathlib.Core.Bool.{Bool, true, false, cond}
@@ -9,9 +11,9 @@ use native.Mathlib.Omega.{arith}
 use lib.Dec.{T, leb, ltb}
 use lib.IntN.{ℤ, pos, negsuc, ◌-ℤ◌}
 use lib.Signed.{mag, non_neg, le_z}
-use lib.ListN.{length, get_or, take, drop, length-take, drop_of_length-le, get_or-eq_default}
+use lib.ListN.{length, get_or, take, drop, drop_of_length-le, get_or-eq_default}
 use lib.Seq.{drop-cons, get_or-take, length-take-le, ext_get_or}
-use mir.Syntax.{w8, w16, w32}
+use mir.Syntax.{w8, w32}
 use mir.Val.{Fits, SFits, hbits, to_z, of_z}
 use mir.Facts.{to_z_pos, to_z-of_z}
 use borrow.Author.Rules.{sfits_of}
@@ -25,6 +27,16 @@ use Rattle.tasks.specs.declared.Task.{Task}
 use Rattle.tasks.specs.declared.Standing as code
 use Rattle.tasks.specs.Views.{task_of, standing_of}
 use Rattle.tasks.proofs.Views.{pattern-few, pattern-all, pattern-at}
+
+-- ── the sum of a pattern, in the library's word ─────────────────────────────
+
+sum-from : (ns : List ℕ) (a : ℕ) → fold ◌+◌ a ns ≡ a + sum ns
+unfolding sum
+sum-from [] a = omega arith
+sum-from (n ∷ ns) a = omega (arith, sum-from ns (a + n))
+
+pub sum-same : (ns : List ℕ) → Rattle.std.specs.List.sum ns ≡ sum ns
+sum-same ns = omega (arith, sum-from ns 0)
 
 -- ── the entries in use are the first of the array ───────────────────────────
 
@@ -42,6 +54,13 @@ pattern-short t = go (le-or-lt (length (task_of t).pattern) 7)
     go (inl k) = k
     go (inr k) = let h = in_use t 7 k in omega arith
 
+pub pattern-length : (t : Task) → length (task_of t).pattern ≡ min (2 * t.steps - 1) 7
+pattern-length t = go (le-or-lt (t.steps + t.steps - 1) 7)
+  where
+    go : (t.steps + t.steps - 1 ≤ 7) ⊎ (7 < t.steps + t.steps - 1) → length (task_of t).pattern ≡ min (2 * t.steps - 1) 7
+    go (inl k) = let e = pattern-few t k in grind arith
+    go (inr k) = let e = pattern-all t (omega arith) in grind arith
+
 pub entry_read : (t : Task) (i : ℕ) → i < length (task_of t).pattern → get_or t.pattern i 0 ≡ get_or (task_of t).pattern i 0
 entry_read t i h = let k = in_use t i h in sym (pattern-at t i k.0 k.1)
 
@@ -54,35 +73,22 @@ pattern-take t n e h =
     let q : length (take n t.pattern) ≡ n = length-take-le n t.pattern (omega arith) in
     ext_get_or 0 (task_of t).pattern (take n t.pattern) (omega arith) (λ i l. sym (entry_read t i l) ∙ sym (get_or-take n t.pattern i 0 (omega arith)))
 
--- ── a pattern walked entry by entry: l is the array, n how many of its entries count ─
+-- ── a pattern walked entry by entry ─────────────────────────────────────────
 
-module _ (l : List ℕ) (n i : ℕ) (lt : i < n) (le : n ≤ length l) where
-  opened : drop i (take n l) ≡ get_or l i 0 ∷ drop (i + 1) (take n l)
-  opened = let h : i < length (take n l) = rw (length-take-le n l le) lt in rw (add-one, drop-cons (take n l) i 0, get_or-take)
-
-  pub sum_more : sum (drop i (take n l)) ≡ get_or l i 0 + sum (drop (i + 1) (take n l))
-  unfolding sum
-  sum_more = ap sum opened
-
-  pub place-more : (p : ℕ) → get_or l i 0 ≤ p → place_of (drop i (take n l)) p ≡ suc (place_of (drop (i + 1) (take n l)) (p - get_or l i 0))
+module _ (l : List ℕ) (i : ℕ) (lt : i < length l) (p : ℕ) where
+  pub place_more : get_or l i 0 ≤ p → place_of (drop i l) p ≡ place_of (drop (i + 1) l) (p - get_or l i 0) + 1
   unfolding place_of
-  place-more p h = rw (opened, le-ltb p (get_or l i 0) h)
+  place_more h = rw (drop-cons l i 0 lt, add-one, add-one, le-ltb p (get_or l i 0) h) refl
 
-  pub place_here : (p : ℕ) → p < get_or l i 0 → place_of (drop i (take n l)) p ≡ 0
+  pub place_here : p < get_or l i 0 → place_of (drop i l) p ≡ 0
   unfolding place_of
-  place_here p h = rw (opened, lt-ltb p (get_or l i 0) h)
+  place_here h = rw (drop-cons l i 0 lt, lt-ltb p (get_or l i 0) h) refl
 
-module _ (l : List ℕ) (n i : ℕ) (le : n ≤ i) where
-  none : drop i (take n l) ≡ []
-  none = drop_of_length-le (take n l) {i = i} (omega (arith, length-take n l))
+pub place_end : (l : List ℕ) (i p : ℕ) → length l ≤ i → place_of (drop i l) p ≡ 0
+unfolding place_of
+place_end l i p le = ap (λ (k : List ℕ). place_of k p) (drop_of_length-le l {i = i} le)
 
-  pub sum-end : sum (drop i (take n l)) ≡ 0
-  unfolding sum
-  sum-end = ap sum none
-
-  pub place_end : (p : ℕ) → place_of (drop i (take n l)) p ≡ 0
-  unfolding place_of
-  place_end p = ap (λ (k : List ℕ). place_of k p) none
+pub ruleset place_laws = (place_more, place_here, place_end)
 
 -- ── where progress stands, by its place ─────────────────────────────────────
 
@@ -134,7 +140,7 @@ unfolding sum
 sum-small [] h = omega arith
 sum-small (n ∷ ns) h = let a = h 0 (omega arith) in let b = sum-small ns (λ i k. h (suc i) (omega arith)) in omega arith
 
-span_small : (t : Task) → ((i : ℕ) → Fits w8 (get_or t.pattern i 0)) → span (task_of t) ≤ 1785
+pub span_small : (t : Task) → ((i : ℕ) → Fits w8 (get_or t.pattern i 0)) → span (task_of t) ≤ 1785
 unfolding span
 span_small t h =
     let a = sum-small (task_of t).pattern (λ i k. rw (sym (entry_read t i k)) (h i)) in
@@ -148,9 +154,6 @@ undone-below τ p e = go (le-or-lt (span τ) p)
     go : (span τ ≤ p) ⊎ (p < span τ) → p < span τ
     go (inl k) = clash-bool (sym (rw (done_at τ p k) at e))
     go (inr k) = k
-
-pub rise-fits : (t : Task) (p : ℕ) → ((i : ℕ) → Fits w8 (get_or t.pattern i 0)) → is_done (standing (task_of t) p) ≡ false → Fits w16 (p + 1)
-rise-fits t p h e = let a = span_small t h in let b = undone-below (task_of t) p e in omega arith
 
 -- ── what a call of `standing_at` told ───────────────────────────────────────
 

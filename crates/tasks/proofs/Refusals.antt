@@ -1,37 +1,35 @@
 -- The refusals in the code's terms: a law for each branch of the rules' definitions.
 use mathlib.Core.Path.{◌≡◌, refl, sym, ap, ◌∙◌}
-use mathlib.Core.Bool.{Bool, true, false, not, cond, ◌&&◌}
-use mathlib.Core.Logic.{⊎_elim}
+use mathlib.Core.Bool.{Bool, true, false, not, cond, ◌&&◌, and-false}
+use mathlib.Core.Logic.{◌⊎◌, inl, inr, ⊎_elim}
 use mathlib.Core.List.{List, [], ◌∷◌}
-use Prim.Native.Nat.{ℕ, zero, suc, ◌+◌, ◌-◌, ◌≤◌, ◌<◌}
+use Prim.Native.Nat.{ℕ, zero, suc, ◌+◌, ◌≤◌, ◌<◌}
 use native.Mathlib.Nat.{pos_of_ne-zero}
 use native.Mathlib.Numerals.{add-one}
 use native.Mathlib.Omega.{arith}
-use borrow.Author.Tests.{not-true, not-false, le-leb, lt-leb, lt-ltb, le-ltb}
-use lib.Dec.{leb, ltb}
+use borrow.Author.Tests.{ne_eqb, le-leb, lt-leb, lt-ltb, le-ltb}
+use Rattle.std.specs.List.{list_any}
+use lib.Dec.{leb, ltb, eqb}
 use lib.ListN.{length, get_or, drop}
-use lib.Seq.{drop-cons, drop-length}
+use lib.Seq.{drop-cons}
 use Rattle.rules.specs.Hyper.{hyper}
-use Rattle.rules.specs.Records.{no_record, between, all_between, pattern_of, task_in, task_refusal, or_else, tasks_refusal, set_refusal, used, set_in, record_refusal}
+use Rattle.rules.specs.Records.{between, all_between, task_in, task_refusal, or_else, tasks_refusal, set_refusal, used, set_in, record_refusal}
 use Rattle.rules.proofs.Laws.{le-or-lt}
 use Rattle.tasks.specs.declared.Task.{Task}
 use Rattle.tasks.specs.declared.TaskSet.{TaskSet}
-use Rattle.tasks.specs.Views.{no_entry, entry_of, record_of, task_of, set_of, bounded}
-use Rattle.tasks.proofs.Views.{used-few, used-at, set-used, pattern-few, pattern-all, pattern-at}
-use Rattle.tasks.proofs.Multiple.{bounded-over, set-within}
+use Rattle.tasks.specs.declared.refusal.Refusal.{Refusal}
+use Rattle.tasks.specs.declared.refusal.Refusal.TheVariants.{ListTooLong, Malformed, OutOfRange, LateDeadline, TaskCount, HyperTooLong, ShortTable, ShortBuffer, BadState, ReportCount, BadTable}
+use Rattle.tasks.specs.Refusals.{number_of}
+use Rattle.std.proofs.lemmas.List.{drop_all}
+use Rattle.std.specs.Prelude.{map, Some, None}
+use Rattle.tasks.specs.Views.{entry_of, record_of, task_of, set_of, within}
+use Rattle.tasks.proofs.Views.{used-few}
 
 -- ── tests ───────────────────────────────────────────────────────────────────
 
 and_no : (a b : Bool) → false ≡ b → false ≡ a && b
 and_no true b e = e
 and_no false b e = refl
-
--- what a call says, with the outcome of a test that is its denial
-pub test-failed : (a b : Bool) → a ≡ b → not a ≡ true → false ≡ b
-test-failed a b e h = sym (not-true a h) ∙ e
-
-pub test-passed : (a b : Bool) → a ≡ b → not a ≡ false → true ≡ b
-test-passed a b e h = sym (not-false a h) ∙ e
 
 -- ── a number in its range ───────────────────────────────────────────────────
 
@@ -51,66 +49,52 @@ all-no b [] i h e = let z : ⊥ = omega arith in absurd z
 all-no b (x ∷ xs) zero h e = ap (λ t. t && all_between 1 b xs) (between-zero b x e)
 all-no b (x ∷ xs) (suc i) h e = and_no (between 1 b x) (all_between 1 b xs) (all-no b xs i (omega arith) e)
 
-all_yes : (b : ℕ) (xs : List ℕ) → ((i : ℕ) → i < length xs → get_or xs i 0 ≡ 0 → ⊥) → ((i : ℕ) → i < length xs → get_or xs i 0 ≤ b) → true ≡ all_between 1 b xs
-unfolding all_between
-all_yes b [] f g = refl
-all_yes b (x ∷ xs) f g =
-    all_yes b xs (λ i h. f (suc i) (omega arith)) (λ i h. g (suc i) (omega arith))
-    ∙ ap (λ t. t && all_between 1 b xs) (sym (le-leb x b (g 0 (omega arith))) ∙ between_more b x (f 0 (omega arith)))
+pub units-any : (ns : List ℕ) → ((i : ℕ) → get_or ns i 0 ≤ 255) → not (list_any (λ n. eqb n 0) ns) ≡ all_between 1 255 ns
+unfolding all_between between
+units-any [] f = refl
+units-any (n ∷ ns) f = one n (f 0) (units-any ns (λ i. f (suc i)))
+  where
+    one : (n : ℕ) → n ≤ 255 → not (list_any (λ n. eqb n 0) ns) ≡ all_between 1 255 ns → not (list_any (λ n. eqb n 0) (n ∷ ns)) ≡ (leb 1 n && leb n 255) && all_between 1 255 ns
+    one zero h e = refl
+    one (suc n) h e = rw (ne_eqb (suc n) 0 (λ z. absurd (omega arith)), le-leb 1 (suc n) (omega arith), le-leb (suc n) 255 h) e
 
-pub fields_within : (t : Task) → (length (task_of t).pattern ≤ t.steps + t.steps - 1) × (length (task_of t).pattern ≤ 7)
-fields_within t =
-    ⊎_elim (λ few. let e = pattern-few t few in (omega arith, omega arith))
-    (λ many. let e = pattern-all t (omega arith) in (omega arith, omega arith))
-    (le-or-lt (t.steps + t.steps - 1) 7)
+true-false : true ≡ false → ⊥
+true-false e = cc
 
-field_at : (t : Task) (i : ℕ) → i < length (task_of t).pattern → get_or (task_of t).pattern i 0 ≡ get_or t.pattern i 0
-field_at t i h = let w = fields_within t in pattern-at t i (omega arith) (omega arith)
+none-some : {k : ℕ} → None ≡ Some k → ⊥
+none-some e = cc
 
-pub units-no : (t : Task) (i : ℕ) → i < length (task_of t).pattern → get_or t.pattern i 0 ≡ 0 → false ≡ all_between 1 255 (pattern_of (entry_of t))
-unfolding task_of task_in
-units-no t i h e = all-no 255 (task_of t).pattern i h (field_at t i h ∙ e)
+some-same : {k h : ℕ} → Some k ≡ Some h → k ≡ h
+some-same e = cc
 
-pub units-yes : (t : Task) → ((i : ℕ) → i < length (task_of t).pattern → get_or t.pattern i 0 ≡ 0 → ⊥) → ((i : ℕ) → get_or t.pattern i 0 < 256) → true ≡ all_between 1 255 (pattern_of (entry_of t))
-unfolding task_of task_in
-units-yes t f g = all_yes 255 (task_of t).pattern (λ i h e. f i h (sym (field_at t i h) ∙ e)) (λ i h. let b = g i in omega (arith, field_at t i h))
+between-below : (b x : ℕ) → between 1 b x ≡ true → x ≤ b
+unfolding between
+between-below b x e = go (le-or-lt x b)
+  where
+    go : (x ≤ b) ⊎ (b < x) → x ≤ b
+    go (inl k) = k
+    go (inr k) = absurd (true-false (sym e ∙ rw (lt-leb x b k) (and-false _)))
 
 -- ── one task ────────────────────────────────────────────────────────────────
 
-pub steps-none : (t : Task) → t.steps ≡ 0 → 2 ≡ task_refusal (entry_of t)
-unfolding task_refusal entry_of
-steps-none t e = rw (sym (between-zero 4 t.steps e))
+module _ (t : Task) where
+  pub steps-wrong : (b : Bool) → b ≡ false → b ≡ between 1 4 t.steps → task_refusal (entry_of t) ≡ 2
+  unfolding task_refusal entry_of task_of task_in
+  steps-wrong b f e = rw (← e, f)
 
-pub steps-over : (t : Task) → 4 < t.steps → 2 ≡ task_refusal (entry_of t)
-unfolding task_refusal entry_of
-steps-over t h = rw (sym (between_more 4 t.steps (λ e. omega arith)), lt-leb t.steps 4 h)
+  module _ (few : between 1 4 t.steps ≡ true) where
+    pub out_of_range : between 1 4096 t.period && (between 1 4096 t.deadline && all_between 1 255 (task_of t).pattern) ≡ false → task_refusal (entry_of t) ≡ 3
+    unfolding task_refusal entry_of task_of task_in
+    out_of_range e = rw (few, e)
 
-module _ (t : Task) (some : t.steps ≡ 0 → ⊥) (few : t.steps ≤ 4) where
-  steps-fine : between 1 4 t.steps ≡ true
-  steps-fine = sym (between_more 4 t.steps some) ∙ le-leb t.steps 4 few
+    module _ (fine : between 1 4096 t.period && (between 1 4096 t.deadline && all_between 1 255 (task_of t).pattern) ≡ true) where
+      pub deadline-late : t.period < t.deadline → task_refusal (entry_of t) ≡ 4
+      unfolding task_refusal entry_of task_of task_in
+      deadline-late h = rw (few, fine, lt-ltb t.period t.deadline h)
 
-  pub period-no : false ≡ between 1 4096 t.period → 3 ≡ task_refusal (entry_of t)
-  unfolding task_refusal entry_of
-  period-no p = rw (steps-fine, sym p)
-
-  module _ (p : true ≡ between 1 4096 t.period) where
-    pub deadline-no : false ≡ between 1 4096 t.deadline → 3 ≡ task_refusal (entry_of t)
-    unfolding task_refusal entry_of
-    deadline-no d = rw (steps-fine, sym p, sym d)
-
-    module _ (d : true ≡ between 1 4096 t.deadline) where
-      pub units-refused : false ≡ all_between 1 255 (pattern_of (entry_of t)) → 3 ≡ task_refusal (entry_of t)
-      unfolding task_refusal entry_of
-      units-refused u = rw (steps-fine, sym p, sym d, sym u)
-
-      module _ (u : true ≡ all_between 1 255 (pattern_of (entry_of t))) where
-        pub deadline-late : t.period < t.deadline → 4 ≡ task_refusal (entry_of t)
-        unfolding task_refusal entry_of
-        deadline-late h = rw (steps-fine, sym p, sym d, sym u, lt-ltb t.period t.deadline h)
-
-        pub task-fine : t.deadline ≤ t.period → 0 ≡ task_refusal (entry_of t)
-        unfolding task_refusal entry_of
-        task-fine h = rw (steps-fine, sym p, sym d, sym u, le-ltb t.period t.deadline h)
+      pub task-fine : t.deadline ≤ t.period → task_refusal (entry_of t) ≡ 0
+      unfolding task_refusal entry_of task_of task_in
+      task-fine h = rw (few, fine, le-ltb t.period t.deadline h)
 
 -- ── the tasks in use ────────────────────────────────────────────────────────
 
@@ -123,55 +107,70 @@ or-next : (r n : ℕ) → r ≡ 0 → or_else r n ≡ n
 unfolding or_else
 or-next r n e = rw e
 
-tasks-from : (s : TaskSet) (i : ℕ) → i < length (set_of s) → tasks_refusal (drop i (used (record_of s))) ≡ or_else (task_refusal (entry_of (get_or s.tasks i no_entry))) (tasks_refusal (drop (i + 1) (used (record_of s))))
+tasks-from : (ts : List Task) (i : ℕ) (d : Task) → i < length ts → tasks_refusal (map entry_of (drop i ts)) ≡ or_else (task_refusal (entry_of (get_or ts i d))) (tasks_refusal (map entry_of (drop (i + 1) ts)))
 unfolding tasks_refusal
-tasks-from s i h =
-    let w = set-within s in
-    let e = set-used s in
-    ap tasks_refusal (drop-cons (used (record_of s)) i no_record (omega arith))
-    ∙ ap (λ r. or_else (task_refusal r) (tasks_refusal (drop (suc i) (used (record_of s))))) (used-at s i no_record (omega arith) (omega arith))
-    ∙ ap (λ n. or_else (task_refusal (entry_of (get_or s.tasks i no_entry))) (tasks_refusal (drop n (used (record_of s))))) (sym (add-one i))
+tasks-from ts i d h = rw (add-one) (ap (λ us. tasks_refusal (map entry_of us)) (drop-cons ts i d h))
 
-pub first-here : (s : TaskSet) (i r : ℕ) → i < length (set_of s) → r ≡ task_refusal (entry_of (get_or s.tasks i no_entry)) → (r ≡ 0 → ⊥) → r ≡ tasks_refusal (drop i (used (record_of s)))
-first-here s i r h e n = rw (tasks-from s i h, ← e) (or-first r (tasks_refusal (drop (i + 1) (used (record_of s)))) n)
+pub first-here : (ts : List Task) (i r n : ℕ) (d : Task) → i < length ts → tasks_refusal (map entry_of (drop i ts)) ≡ n → task_refusal (entry_of (get_or ts i d)) ≡ r → (r ≡ 0 → ⊥) → n ≡ r
+first-here ts i r n d h e f z = sym (or-first r _ z ∙ sym (rw f at (tasks-from ts i d h)) ∙ e)
 
-pub first_next : (s : TaskSet) (i r : ℕ) → i < length (set_of s) → r ≡ task_refusal (entry_of (get_or s.tasks i no_entry)) → r ≡ 0 → tasks_refusal (drop i (used (record_of s))) ≡ tasks_refusal (drop (i + 1) (used (record_of s)))
-first_next s i r h e n = tasks-from s i h ∙ or-next _ _ (sym e ∙ n)
+pub first_next : (ts : List Task) (i n : ℕ) (d : Task) → i < length ts → tasks_refusal (map entry_of (drop i ts)) ≡ n → task_refusal (entry_of (get_or ts i d)) ≡ 0 → tasks_refusal (map entry_of (drop (i + 1) ts)) ≡ n
+first_next ts i n d h e f = sym (or-next _ _ f) ∙ sym (tasks-from ts i d h) ∙ e
 
-pub first-end : (s : TaskSet) (i : ℕ) → i ≡ length (set_of s) → tasks_refusal (drop i (used (record_of s))) ≡ 0
+pub first-end : (ts : List Task) (i n : ℕ) → length ts ≤ i → tasks_refusal (map entry_of (drop i ts)) ≡ n → n ≡ 0
 unfolding tasks_refusal
-first-end s i e = rw (e, set-used, drop-length)
+first-end ts i n h e = sym e ∙ rw (drop_all i ts h) refl
+
+pub number-some : (r : Refusal) → number_of r ≡ 0 → ⊥
+number-some ListTooLong e = absurd (omega arith)
+number-some Malformed e = absurd (omega arith)
+number-some OutOfRange e = absurd (omega arith)
+number-some LateDeadline e = absurd (omega arith)
+number-some TaskCount e = absurd (omega arith)
+number-some HyperTooLong e = absurd (omega arith)
+number-some ShortTable e = absurd (omega arith)
+number-some ShortBuffer e = absurd (omega arith)
+number-some BadState e = absurd (omega arith)
+number-some ReportCount e = absurd (omega arith)
+number-some BadTable e = absurd (omega arith)
+
+abbrev six : Bool → ℕ
+six b = cond b 6 0
+
+over-limit : (h : ℕ) → None ≡ cond (leb h 4096) (Some h) None → six (ltb 4096 h) ≡ 6
+over-limit h e = ⊎_elim (λ few. absurd (none-some (rw (le-leb h 4096 few) at e))) (λ many. rw (lt-ltb 4096 h many) refl) (le-or-lt h 4096)
 
 -- ── the set ─────────────────────────────────────────────────────────────────
 
-pub count_none : (s : TaskSet) → s.count ≡ 0 → 5 ≡ record_refusal (record_of s)
+pub count-wrong : (s : TaskSet) → between 1 8 s.count ≡ false → record_refusal (record_of s) ≡ 5
 unfolding record_refusal record_of
-count_none s e = rw (sym (between-zero 8 s.count e))
+count-wrong s e = rw e
 
-pub count-over : (s : TaskSet) → 8 < s.count → 5 ≡ record_refusal (record_of s)
-unfolding record_refusal record_of
-count-over s h = rw (sym (between_more 8 s.count (λ e. omega arith)), lt-leb s.count 8 h)
-
-module _ (s : TaskSet) (some : s.count ≡ 0 → ⊥) (few : s.count ≤ 8) where
+module _ (s : TaskSet) (few : between 1 8 s.count ≡ true) where
   refusal-from : record_refusal (record_of s) ≡ or_else (tasks_refusal (used (record_of s))) (cond (ltb 4096 (hyper (set_of s))) 6 0)
   unfolding record_refusal set_refusal set_of set_in record_of
-  refusal-from =
-      let e : between 1 8 s.count ≡ true = sym (between_more 8 s.count some) ∙ le-leb s.count 8 few in
-      rw (e, used-few s few, e)
+  refusal-from = rw (few, used-few s (between-below 8 s.count few), few)
 
-  pub task-refused : (r : ℕ) → r ≡ tasks_refusal (used (record_of s)) → (r ≡ 0 → ⊥) → r ≡ record_refusal (record_of s)
-  task-refused r e n = rw (refusal-from, ← e) (or-first r _ n)
+  pub task-refused : (r : ℕ) → tasks_refusal (used (record_of s)) ≡ r → (r ≡ 0 → ⊥) → record_refusal (record_of s) ≡ r
+  task-refused r e n = rw (refusal-from, e) (sym (or-first r _ n))
 
-  module _ (r h : ℕ) (e : r ≡ tasks_refusal (used (record_of s))) (n : r ≡ 0) (b : h ≡ bounded (hyper (set_of s))) where
-    hyper-decides : record_refusal (record_of s) ≡ cond (ltb 4096 h) 6 0
-    hyper-decides = refusal-from ∙ or-next _ _ (sym e ∙ n) ∙ ap (λ t. cond t 6 0) (sym (bounded-over (hyper (set_of s))) ∙ ap (ltb 4096) (sym b))
+  module _ (fine : tasks_refusal (used (record_of s)) ≡ 0) where
+    hyper-decides : record_refusal (record_of s) ≡ cond (ltb 4096 (hyper (set_of s))) 6 0
+    hyper-decides = refusal-from ∙ or-next _ _ fine
 
-    pub hyper-over : 4096 < h → 6 ≡ record_refusal (record_of s)
-    hyper-over k = rw (hyper-decides, lt-ltb 4096 h k)
+    pub hyper-over : None ≡ within (hyper (set_of s)) → record_refusal (record_of s) ≡ 6
+    unfolding within
+    hyper-over e = hyper-decides ∙ over-limit (hyper (set_of s)) e
 
-    pub set-fine : h ≤ 4096 → 0 ≡ record_refusal (record_of s)
-    set-fine k = rw (hyper-decides, le-ltb 4096 h k)
+    pub set-fine : (k : ℕ) → Some k ≡ within (hyper (set_of s)) → (record_refusal (record_of s) ≡ 0) × (k ≡ hyper (set_of s))
+    unfolding within
+    set-fine k e = fit (hyper (set_of s)) e hyper-decides
+      where
+        fit : (h : ℕ) → Some k ≡ cond (leb h 4096) (Some h) None → record_refusal (record_of s) ≡ cond (ltb 4096 h) 6 0 → (record_refusal (record_of s) ≡ 0) × (k ≡ h)
+        fit h e d = ⊎_elim (λ few. (d ∙ rw (le-ltb 4096 h few) refl, some-same (rw (le-leb h 4096 few) at e))) (λ many. absurd (none-some (sym (rw (lt-leb h 4096 many) at e)))) (le-or-lt h 4096)
 
-pub ruleset task-laws = (test-failed, test-passed, steps-none, steps-over, period-no, deadline-no, units-refused, deadline-late, task-fine)
+pub ruleset first_laws = (first-here, first_next, first-end, number-some)
 
-pub ruleset set-laws = (count_none, count-over, task-refused, hyper-over, set-fine)
+pub ruleset set_laws = (count-wrong, task-refused, hyper-over, set-fine, number-some)
+
+pub ruleset task_laws = (steps-wrong, out_of_range, deadline-late, task-fine)

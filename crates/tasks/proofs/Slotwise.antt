@@ -7,7 +7,7 @@ use Prim.Native.Nat.{ℕ, suc, ◌+◌, ◌%◌, ◌≤◌, ◌<◌}
 use native.Mathlib.Nat.{mod-zero, mod-lt, mod_self, mod-eq_of_lt, suc-mod}
 use native.Mathlib.Numerals.{add-one}
 use native.Mathlib.Omega.{arith}
-use borrow.Author.Tests.{eq-eqb, ne_eqb, eqb-true, eqb-false, not-true, not-false}
+use borrow.Author.Tests.{eq-eqb, ne_eqb, eqb-true, eqb-false, not-true}
 use lib.Dec.{eqb}
 use lib.ListN.{length, get_or, drop, set, replicate, drop_of_length-le}
 use lib.Seq.{drop-cons}
@@ -16,9 +16,8 @@ use Rattle.rules.specs.Positions.{Position, each, every, allowed, passed, ended,
 use Rattle.rules.proofs.Laws.{le-or-lt}
 use Rattle.tasks.specs.declared.TaskSet.{TaskSet}
 use Rattle.tasks.specs.Slots.{onward, well_after}
-use Rattle.tasks.specs.Views.{no_entry, task_of, set_of, progress_of, position_of, array_of}
-use Rattle.tasks.proofs.OneTask.{done-from, undone-till}
-use Rattle.tasks.proofs.Positions.{task-at, Written, each_long, number_at, written_start, written_step, written-end}
+use Rattle.tasks.specs.Views.{set_of, progress_of, position_of, array_of}
+use Rattle.tasks.proofs.Positions.{Written, each_long, number_at, written_start, written_step, written-end}
 
 -- ── tests ───────────────────────────────────────────────────────────────────
 
@@ -57,20 +56,6 @@ starts-full t τ = go (eqb (suc (t % τ.period)) τ.period) refl
     go false e = let z = since-amid t τ.period (eqb-false _ _ e) in ne_eqb (suc t % τ.period) 0 (λ y. omega arith)
 
 -- ── one task ────────────────────────────────────────────────────────────────
-
--- w tells whether its job ends its slot well, with progress `end`
-module _ (τ : Task) (length end : ℕ) (whole : length ≡ span τ) (w : Bool) where
-  -- it does not
-  pub starts-ill : not w ≡ true → false ≡ w && (is_done (standing τ end) && in_time 0 τ 0)
-  starts-ill h = rw (not-true w h)
-
-  -- it is not done
-  pub starts-undone : end < length → false ≡ w && (is_done (standing τ end) && in_time 0 τ 0)
-  starts-undone h = rw (undone-till τ length end whole h) (sym (and-false w))
-
-  -- r tells whether the new one has time
-  pub starts-done : (r : Bool) → not w ≡ false → length ≤ end → r ≡ in_time 0 τ 0 → r ≡ w && (is_done (standing τ end) && in_time 0 τ 0)
-  starts-done r k h e = rw (not-false w k, done-from τ length end whole h) e
 
 -- r is the time since release, w tells whether the progress `end` at the end of the slot is in time
 module _ (t : ℕ) (τ : Task) (q end r : ℕ) (w : Bool) (ends : end ≡ q) (since : r ≡ t % τ.period) (timely : w ≡ in_time (r + 1) τ end) where
@@ -135,19 +120,19 @@ module _ (s : TaskSet) (slot : ℕ) (p : List ℕ) (c : ℕ) where
     pub tells : allowed (set_of s) (progress_of s p) c && rest 0 ≡ b && rest i
 
   rest-next : (i : ℕ) → length p ≡ 8 → i < length (set_of s)
-      → rest i ≡ well_after slot (task_of (get_or s.tasks i no_entry)) (passed c i (task_of (get_or s.tasks i no_entry)) (get_or p i 0)) && rest (i + 1)
+      → rest i ≡ well_after slot (get_or (set_of s) i no_task) (passed c i (get_or (set_of s) i no_task) (get_or p i 0)) && rest (i + 1)
   unfolding every ended
   rest-next i e h =
       let l = each_long (passed c) s p e in
       let j : i < length (each (passed c) 0 (set_of s) (progress_of s p)) = omega arith in
-      rw (add-one, drop-cons (set_of s) i no_task h, drop-cons (each (passed c) 0 (set_of s) (progress_of s p)) i 0 j, task-at s i h, number_at (passed c) s p i e h)
+      rw (add-one, drop-cons (set_of s) i no_task h, drop-cons (each (passed c) 0 (set_of s) (progress_of s p)) i 0 j, number_at (passed c) s p i e h)
 
   pub through-start : (b : Bool) → length p ≡ 8 → b ≡ allowed (set_of s) (progress_of s p) c → Through 0 b (replicate 8 0)
   through-start b e a = record { writes = written_start (taken slot c) s p e; tells = rw a }
 
   pub through-step : (i : ℕ) (b w r : Bool) (n : ℕ) (out : List ℕ) → Through i b out → i < length (set_of s)
-      → w ≡ well_after slot (task_of (get_or s.tasks i no_entry)) (passed c i (task_of (get_or s.tasks i no_entry)) (get_or p i 0))
-      → n ≡ onward slot (task_of (get_or s.tasks i no_entry)) (passed c i (task_of (get_or s.tasks i no_entry)) (get_or p i 0))
+      → w ≡ well_after slot (get_or (set_of s) i no_task) (passed c i (get_or (set_of s) i no_task) (get_or p i 0))
+      → n ≡ onward slot (get_or (set_of s) i no_task) (passed c i (get_or (set_of s) i no_task) (get_or p i 0))
       → r ≡ b && w → Through (i + 1) r (set out i n)
   through-step i b w r n out v h e f k = record {
     writes = written_step (taken slot c) s p i n out v.writes h f;

@@ -1,9 +1,13 @@
 -- The views by place: how many tasks a set has and which, and how many entries a pattern has and which.
-use mathlib.Core.Path.{◌≡◌, ap, ◌∙◌}
+use mathlib.Core.Path.{◌≡◌, ap, sym, ◌∙◌}
 use Prim.Native.Nat.{ℕ, ◌+◌, ◌-◌, ◌≤◌, ◌<◌}
 use native.Mathlib.Omega.{arith}
-use lib.ListN.{length, get_or, length-map, get_or-map}
-use lib.Seq.{get_or-take, length-take-le, take_all}
+use Rattle.std.specs.Prelude.{map, min}
+use mathlib.Core.Logic.{◌⊎◌, inl, inr}
+use Rattle.rules.proofs.Laws.{le-or-lt}
+use Rattle.std.proofs.lemmas.List.{get_or_default}
+use lib.ListN.{length, get_or, take, length-take, length-map, get_or-map}
+use lib.Seq.{ext_get_or, get_or-take, length-take-le, take_all}
 use Rattle.rules.specs.Tasks.{no_task}
 use Rattle.rules.specs.Records.{TaskRecord, Arrays, pattern_of, task_in, tasks_in, no_record, used, set_in}
 use Rattle.rules.proofs.Lists.{tabulate-at, tabulate-length}
@@ -80,3 +84,47 @@ pattern-all t h = let k = units-length t in ap length (take_all (t.steps + t.ste
 pub pattern-at : (t : Task) (i : ℕ) → i < t.steps + t.steps - 1 → i < 7 → get_or (task_of t).pattern i 0 ≡ get_or t.pattern i 0
 unfolding task_of task_in pattern_of entry_of
 pattern-at t i h k = get_or-take (t.steps + t.steps - 1) (entry_of t).units i 0 h ∙ unit-at t i k
+
+-- ── the slice of the tasks in use ───────────────────────────────────────────
+
+module _ (s : TaskSet) (eight : length s.tasks ≡ 8) where
+  pub slice-length : length (take (min s.count 8) s.tasks) ≡ length (set_of s)
+  slice-length = go (le-or-lt s.count 8)
+    where
+      go : (s.count ≤ 8) ⊎ (8 < s.count) → length (take (min s.count 8) s.tasks) ≡ length (set_of s)
+      go (inl h) = let e = set-few s h in let l = length-take-le (min s.count 8) s.tasks (grind arith) in grind arith
+      go (inr h) = let e = set_all s (omega arith) in let l = length-take-le (min s.count 8) s.tasks (grind arith) in grind arith
+
+  pub slice-at : (i : ℕ) (d : Task) → i < length (set_of s) → get_or (take (min s.count 8) s.tasks) i d ≡ get_or s.tasks i no_entry
+  slice-at i d h =
+      let l = slice-length in
+      let w : i < min s.count 8 = len-take i (omega arith) in
+      get_or-take (min s.count 8) s.tasks i d w ∙ get_or_default s.tasks i d no_entry (omega arith)
+    where
+      len-take : (i : ℕ) → i < length (take (min s.count 8) s.tasks) → i < min s.count 8
+      len-take i h = omega (arith, length-take (min s.count 8) s.tasks)
+
+  pub slice-tasks : map task_of (take (min s.count 8) s.tasks) ≡ set_of s
+  unfolding no_task task_of task_in entry_of pattern_of
+  slice-tasks =
+      let l = slice-length in
+      let m = length-map (take (min s.count 8) s.tasks) task_of in
+      ext_get_or no_task (map task_of (take (min s.count 8) s.tasks)) (set_of s) (omega arith)
+      (λ i h. let k : i < length (set_of s) = omega arith in let w = within i k in
+      get_or-map task_of (take (min s.count 8) s.tasks) i no_entry ∙ ap task_of (slice-at i no_entry k) ∙ sym (set_at s i (omega arith) (omega arith)))
+    where
+      within : (i : ℕ) → i < length (set_of s) → i < min s.count 8
+      within i k = let l = slice-length in omega (arith, length-take (min s.count 8) s.tasks)
+
+  pub slice-entries : map entry_of (take (min s.count 8) s.tasks) ≡ used (record_of s)
+  unfolding no_record entry_of
+  slice-entries =
+      let l = slice-length in
+      let k = set-used s in
+      let m = length-map (take (min s.count 8) s.tasks) entry_of in
+      ext_get_or (entry_of no_entry) (map entry_of (take (min s.count 8) s.tasks)) (used (record_of s)) (omega arith)
+      (λ i h. let k : i < length (set_of s) = omega arith in let w = within i k in
+      get_or-map entry_of (take (min s.count 8) s.tasks) i no_entry ∙ ap entry_of (slice-at i no_entry k) ∙ sym (used-at s i (entry_of no_entry) (omega arith) (omega arith)))
+    where
+      within : (i : ℕ) → i < length (set_of s) → i < min s.count 8
+      within i k = let l = slice-length in omega (arith, length-take (min s.count 8) s.tasks)

@@ -1,3 +1,4 @@
 pub mod Refusals
 pub mod Views
 pub mod Slots
+pub mod Timed

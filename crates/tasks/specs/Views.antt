@@ -1,7 +1,8 @@
 -- What the code's structs stand for in the rules. Arrays are read by place, so a view has eight entries of seven units whatever it is given.
-use Rattle.std.specs.Prelude.{ℕ, cond, List, [], leb, length, get_or, take}
+use Rattle.std.specs.Prelude.{ℕ, cond, List, [], leb, eqb, length, get_or, take, Option, Some, None}
 use Rattle.rules.specs.Lists.{tabulate, padded}
 use Rattle.rules.specs.Tasks as model
+use Rattle.rules.specs.Hyper.{lcm}
 use Rattle.rules.specs.Positions.{Position}
 use Rattle.rules.specs.Records.{TaskRecord, SetRecord, task_in, set_in}
 use Rattle.tasks.specs.declared.Task.{Task}
@@ -46,6 +47,11 @@ standing_of Ready = model.ready
 standing_of Waiting = model.waiting
 standing_of Done = model.done
 
--- the hyper-period with its bound: 4,097 stands for any above 4,096
-unfoldable pub bounded : ℕ → ℕ
-bounded h = cond (leb h 4096) h 4097
+-- a hyper-period, if it is at most 4,096
+unfoldable pub within : ℕ → Option ℕ
+within h = cond (leb h 4096) (Some h) None
+
+-- a period with the multiple of those behind it, if that is at most 4,096: a period 0 makes it 0
+unfoldable pub joined : ℕ → Option ℕ → Option ℕ
+joined p None = cond (eqb p 0) (Some 0) None
+joined p (Some h) = within (lcm p h)

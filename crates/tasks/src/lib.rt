@@ -5,7 +5,9 @@ pub mod pattern;
 pub mod position;
 pub mod refusal;
 pub mod set;
+pub mod timed;
 
+pub use position::Position;
 pub use refusal::Refusal;
 
 // A task: period T, deadline D, m steps, and the pattern C E C .. of which the first 2m - 1 entries are in use.
@@ -30,4 +32,21 @@ pub enum Standing {
     Ready,
     Waiting,
     Done,
+}
+
+// The choice of a slot in which no task runs.
+pub const IDLE: u8 = 255;
+
+impl Standing {
+    ghost use Rattle.std.specs.Prelude.{◌≡◌};
+    ghost use Rattle.rules.specs.Tasks.{is_ready};
+    ghost use Rattle.tasks.specs.Views.{standing_of};
+
+    #[tactic(auto, unfolding(rules::specs::Tasks::is_ready, crate::specs::Views::standing_of))]
+    // Inside a step.
+    pub fn is_ready(self) -> bool
+        ensures { result ≡ is_ready (standing_of self) }
+    {
+        matches!(self, Standing::Ready)
+    }
 }

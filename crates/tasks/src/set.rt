@@ -1,22 +1,14 @@
 // The set's hyper-period and its refusal.
-ghost use Rattle.std.specs.Prelude.{◌≡◌, length};
+ghost use Rattle.std.specs.Prelude.{◌≡◌, ◌&&◌, map, min, take, OnOk, IfErr, IfOk};
 ghost use Rattle.rules.specs.Hyper.{gcd, lcm, hyper};
-ghost use Rattle.rules.specs.Records.{between, all_between, pattern_of, task_refusal, tasks_refusal, used, record_refusal};
-ghost use Rattle.tasks.specs.Views.{entry_of, record_of, set_of, bounded};
+ghost use Rattle.rules.specs.Records.{between, all_between, task_refusal, tasks_refusal, used, record_refusal};
+ghost use Rattle.tasks.specs.Refusals.{number_of, number_in};
+ghost use Rattle.tasks.specs.Views.{entry_of, record_of, task_of, set_of, within, joined};
 
-use crate::pattern::fields;
-use crate::{Task, TaskSet};
+use crate::{Refusal, Task, TaskSet};
 
-// The number of tasks in use, at most the eight of the array.
-pub fn tasks_in(s: TaskSet) -> usize
-    ensures { result ≡ length (set_of s) }
-{
-    let n = s.count as usize;
-    if 8 < n {
-        return 8;
-    }
-    n
-}
+// The longest period, deadline and hyper-period.
+const LONGEST: u16 = 4096;
 
 // The greatest common divisor, by recursion on a falling remainder.
 fn divisor(a: u32, b: u32) -> u32
@@ -25,131 +17,158 @@ fn divisor(a: u32, b: u32) -> u32
     if b == 0 { a } else { divisor(b, a % b) }
 }
 
-// The least common multiple with its bound: 4,097 where it is above 4,096.
-pub fn multiple(a: u16, b: u16) -> u16
-    ensures { result ≡ bounded (lcm a b) }
+#[tactic(auto, using(crate::proofs::Multiple::multiple_laws))]
+// The least common multiple, if it is at most 4,096.
+pub fn multiple(a: u16, b: u16) -> Option<u16>
+    ensures { result ≡ within (lcm a b) }
 {
     if a == 0 {
-        return 0;
+        return Some(0);
     }
-    let x = a as u32;
-    let y = b as u32;
-    let m = x / divisor(x, y) * y;
+    let a = u32::from(a);
+    let b = u32::from(b);
+    let m = a / divisor(a, b) * b;
     if 4096 < m {
-        return 4097;
+        return None;
     }
-    m as u16
+    Some(m as u16)
 }
 
-// The hyper-period with its bound, from the last task to the first.
-pub fn hyper_period(s: TaskSet) -> u16
-    ensures { result ≡ bounded (hyper (set_of s)) }
+#[tactic(auto, using(crate::proofs::Multiple::joined_laws))]
+// A period with the multiple of those behind it. Where the period is 0, so is the multiple.
+fn joined(period: u16, behind: Option<u16>) -> Option<u16>
+    ensures { result ≡ joined period behind }
 {
-    let mut h: u16 = 1;
-    let mut i = tasks_in(s);
-    while 0 < i {
-        i -= 1;
-        let t = s.tasks[i];
-        h = multiple(t.period, h);
+    if period == 0 {
+        return Some(0);
     }
-    h
-}
-
-// Every pattern entry in use is 1 or more. (A byte is 255 at most.)
-fn units_in_range(t: Task) -> bool
-    ensures { result ≡ all_between 1 255 (pattern_of (entry_of t)) }
-{
-    let n = fields(t);
-    let p = t.pattern;
-    let mut i = 0;
-    while i < n {
-        if p[i] == 0 {
-            return false;
-        }
-        i += 1;
-    }
-    true
+    multiple(period, behind?)
 }
 
 // A period or a deadline in its range.
-fn time_in_range(x: u16) -> bool
+#[tactic(auto, unfolding(rules::specs::Records::between))]
+fn is_time(x: u16) -> bool
     ensures { result ≡ between 1 4096 x }
 {
-    if x == 0 {
-        return false;
-    }
-    x <= 4096
+    (1..=4096).contains(&x)
 }
 
-// The refusal of one task: 2, 3 or 4, or 0 if it is admissible.
-pub fn task_refusal(t: Task) -> u8
-    ensures { result ≡ task_refusal (entry_of t) }
+// Every entry is 1 or more. (A byte is 255 at most.)
+fn all_given(units: &[u8]) -> bool
+    ensures { result ≡ all_between 1 255 units.now }
 {
-    if t.steps == 0 {
-        return 2;
-    }
-    if 4 < t.steps {
-        return 2;
-    }
-    if !time_in_range(t.period) {
-        return 3;
-    }
-    if !time_in_range(t.deadline) {
-        return 3;
-    }
-    if !units_in_range(t) {
-        return 3;
-    }
-    if t.period < t.deadline {
-        return 4;
-    }
-    0
+    !units.contains(&0)
 }
 
-// The first refusal among the tasks in use, 0 if there is none.
-fn first_refusal(s: TaskSet) -> u8
-    ensures { result ≡ tasks_refusal (used (record_of s)) }
-{
-    let n = tasks_in(s);
-    let mut i = 0;
-    while i < n {
-        let t = s.tasks[i];
-        let refused = task_refusal(t);
-        if refused != 0 {
-            return refused;
+impl Task {
+    // The number of steps is in its range.
+    #[tactic(auto, unfolding(rules::specs::Records::between))]
+    fn has_steps(&self) -> bool
+        ensures { result ≡ between 1 4 self.now.steps }
+    {
+        (1..=4).contains(&self.steps)
+    }
+
+    // Every other number is in its range.
+    fn in_range(&self) -> bool
+        ensures { result ≡ between 1 4096 self.now.period && (between 1 4096 self.now.deadline && all_between 1 255 (task_of self.now).pattern) }
+    {
+        is_time(self.period) && is_time(self.deadline) && all_given(self.entries())
+    }
+
+    // Whether the task is admissible; else 2, 3 or 4.
+    #[tactic(auto, using(crate::proofs::Refusals::task_laws))]
+    pub fn admit(&self) -> Result<(), Refusal>
+        ensures admitted { OnOk result (task_refusal (entry_of self.now) ≡ 0) }
+        ensures refused { IfErr result (λ refusal. task_refusal (entry_of self.now) ≡ number_of refusal) }
+    {
+        if !self.has_steps() {
+            return Err(Refusal::Malformed);
         }
-        i += 1;
+        if !self.in_range() {
+            return Err(Refusal::OutOfRange);
+        }
+        if self.period < self.deadline {
+            return Err(Refusal::LateDeadline);
+        }
+        Ok(())
     }
-    0
 }
 
-// The judgement on a set: its refusal, 0 if it is admissible, and its hyper-period with its bound.
-#[derive(Clone, Copy)]
+// The judgement on a set: its refusal, if it has one, and its hyper-period, if that is at most 4,096.
+#[derive(Clone, Copy, Debug, PartialEq, Eq)]
 pub struct Judged {
-    pub refusal: u8,
-    pub hyper: u16,
+    pub refusal: Option<Refusal>,
+    pub hyper: Option<u16>,
 }
 
-pub fn judge(s: TaskSet) -> Judged
-    ensures refused { result.refusal ≡ record_refusal (record_of s) }
-    ensures period { result.hyper ≡ bounded (hyper (set_of s)) }
-{
-    let hyper = hyper_period(s);
-    if s.count == 0 {
-        return Judged { refusal: 5, hyper };
+impl TaskSet {
+    // The tasks in use, at most the eight of the array.
+    pub fn used(&self) -> &[Task]
+        ensures tasks { map task_of result.now ≡ set_of self.now }
+        ensures entries { map entry_of result.now ≡ used (record_of self.now) }
+        ensures first { result.now ≡ take (min self.now.count 8) self.now.tasks }
+    {
+        &self.tasks[..usize::from(self.count).min(8)]
     }
-    if 8 < s.count {
-        return Judged { refusal: 5, hyper };
+
+    #[tactic(auto, using(crate::proofs::Multiple::hyper_laws))]
+    // The hyper-period, if it is at most 4,096: from the last task to the first.
+    pub fn hyper_period(&self) -> Option<u16>
+        ensures { result ≡ within (hyper (set_of self.now)) }
+    {
+        let used = self.used();
+        let mut hyper = Some(1);
+        for i in (0..used.len()).rev() {
+            hyper = joined(used[i].period, hyper);
+        }
+        hyper
     }
-    let refused = first_refusal(s);
-    if refused != 0 {
-        return Judged {
-            refusal: refused,
-            hyper,
-        };
+
+    #[tactic(auto, using(crate::proofs::Refusals::first_laws))]
+    // The first refusal among the tasks in use.
+    fn admit_tasks(&self) -> Result<(), Refusal>
+        ensures admitted { OnOk result (tasks_refusal (used (record_of self.now)) ≡ 0) }
+        ensures refused { IfErr result (λ refusal. tasks_refusal (used (record_of self.now)) ≡ number_of refusal) }
+    {
+        for task in self.used() {
+            task.admit()?;
+        }
+        Ok(())
     }
-    if 4096 < hyper {
-        return Judged { refusal: 6, hyper };
+
+    // The number of tasks is in its range.
+    #[tactic(auto, unfolding(rules::specs::Records::between))]
+    fn has_count(&self) -> bool
+        ensures { result ≡ between 1 8 self.now.count }
+    {
+        (1..=8).contains(&self.count)
     }
-    Judged { refusal: 0, hyper }
+
+    #[tactic(auto, using(crate::proofs::Refusals::set_laws))]
+    // The hyper-period of an admissible set; else 5, the first of 2, 3 and 4 among its tasks, or 6.
+    pub fn admit(&self) -> Result<u16, Refusal>
+        ensures admitted { IfOk result (λ hyper. (record_refusal (record_of self.now) ≡ 0) × (hyper ≡ Rattle.rules.specs.Hyper.hyper (set_of self.now))) }
+        ensures refused { IfErr result (λ refusal. record_refusal (record_of self.now) ≡ number_of refusal) }
+    {
+        if !self.has_count() {
+            return Err(Refusal::TaskCount);
+        }
+        self.admit_tasks()?;
+        match self.hyper_period() {
+            Some(hyper) => Ok(hyper),
+            None => Err(Refusal::HyperTooLong),
+        }
+    }
+
+    // The set's refusal, and its hyper-period whether it is refused or not.
+    pub fn judge(&self) -> Judged
+        ensures refused { number_in result.refusal ≡ record_refusal (record_of self.now) }
+        ensures period { result.hyper ≡ within (hyper (set_of self.now)) }
+    {
+        Judged {
+            refusal: self.admit().err(),
+            hyper: self.hyper_period(),
+        }
+    }
 }

@@ -1,10 +1,7 @@
 -- `planner::mark::choice_from`: the first ready task whose bit is set, or idle. Assumes nothing.
-use Prim.Native.Nat.{◌-◌}
 use Rattle.planner.proofs.Loops.{Looked}
 use Rattle.planner.proofs.mark.choice_from.Given as goal
 
 abbrev pub invariant-loop-i : goal.invariant-loop-i
 invariant-loop-i l = Looked l.mark l.n l.rows l.before l.i l.bits
 
-abbrev pub decreases-loop-i : goal.decreases-loop-i
-decreases-loop-i l = l.n - l.i

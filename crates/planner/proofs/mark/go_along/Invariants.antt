@@ -1,11 +1,8 @@
 -- `planner::mark::go_along`: the progress after a slot, task by task, with the bit of each. Assumes nothing.
 use mathlib.Core.Path.{◌≡◌}
-use Prim.Native.Nat.{◌-◌}
 use Rattle.planner.proofs.Loops.{Filled, Kept, halved, forth}
 use Rattle.planner.proofs.mark.go_along.Given as goal
 
 abbrev pub invariant-loop-i : goal.invariant-loop-i
 invariant-loop-i l = Filled (forth l.slot l.mark) l.n l.rows l.initial.progress l.i l.progress × Kept l.i l.initial.progress l.progress × (l.bits ≡ halved l.mark l.i)
 
-abbrev pub decreases-loop-i : goal.decreases-loop-i
-decreases-loop-i l = l.n - l.i

@@ -11,12 +11,7 @@ go_along-requires-clause-modest c = search (rules, spelling-modest)
 
 pub loop-slot-preserved : goal.loop-slot-preserved
 loop-slot-preserved c =
-    let f = c in
-    let e = f in
-    let l = e in
-    let a = l.args in
-    spelling-step a.n a.rows.now a.h a.table.now l.loop-slot.slot l.loop-slot.table l.loop-slot.progress (search rules) l.loop-slot.invariant e.loop-slot-test.true
-    f.choice_from.result f.choice_from.ensures _ (search rules) c.go_along.ensures
+    spelling-step _ _ _ _ _ _ _ (search rules) c.loop-slot.invariant c.loop-slot-test.true _ c.choice_from.ensures _ (search rules) c.go_along.ensures
 
 pub returns : goal.returns
 returns c = search (rules, spelling-end)

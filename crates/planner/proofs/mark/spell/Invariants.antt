@@ -1,10 +1,7 @@
 -- `planner::mark::spell`: marks into choices, slot by slot, with the position. Assumes nothing.
-use Prim.Native.Nat.{◌-◌}
 use Rattle.planner.proofs.Loops.{Spelling}
 use Rattle.planner.proofs.mark.spell.Given as goal
 
 abbrev pub invariant-loop-slot : goal.invariant-loop-slot
 invariant-loop-slot l = Spelling l.n l.rows l.h l.initial.table l.slot l.table l.progress
 
-abbrev pub decreases-loop-slot : goal.decreases-loop-slot
-decreases-loop-slot l = l.h - l.slot

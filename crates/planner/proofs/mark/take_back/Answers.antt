@@ -10,15 +10,8 @@ loop-i-init c = (search (rules, filled-start), refl)
 
 pub loop-i-preserved : goal.loop-i-preserved
 loop-i-preserved c =
-    let l = c in
-    let a = l.args in
-    let i = l.loop-i.i in
-    let bits = l.loop-i.bits in
-    let v = l.loop-i.invariant in (
-      back_step a.slot a.mark a.n a.rows.now a.after i bits l.loop-i.out v.0 v.1 c.loop-i-test.true
-          c.at_end.result c.less_bit.result c.at_end.ensures c.less_bit.ensures,
-      halved-next a.mark bits i v.1,
-    )
+    let v = c.loop-i.invariant in
+    (rw (c.saturating_sub.ensures) (back_step _ _ _ _ _ _ _ _ v.0 v.1 c.loop-i-test.true c.told-rows _ _ c.at_end-end.ensures), halved-next _ _ _ v.1)
 
 pub returns : goal.returns
 returns c = search (rules, back_end)

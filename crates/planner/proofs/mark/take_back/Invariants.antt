@@ -1,11 +1,8 @@
 -- `planner::mark::take_back`: the progress before a slot, task by task, with the bit of each. Assumes nothing.
 use mathlib.Core.Path.{◌≡◌}
-use Prim.Native.Nat.{◌-◌}
 use Rattle.planner.proofs.Loops.{Filled, halved, back}
 use Rattle.planner.proofs.mark.take_back.Given as goal
 
 abbrev pub invariant-loop-i : goal.invariant-loop-i
-invariant-loop-i l = Filled (back l.slot l.mark) l.n l.rows l.after l.i l.out × (l.bits ≡ halved l.mark l.i)
+invariant-loop-i l = Filled (back l.slot l.mark) l.n l.rows l.after l.i l.before × (l.bits ≡ halved l.mark l.i)
 
-abbrev pub decreases-loop-i : goal.decreases-loop-i
-decreases-loop-i l = l.n - l.i

@@ -1,10 +1,11 @@
--- `planner::search::run` is a run of the machine from its start to its end. The loop's invariant: what is reached from the search as it
+-- `planner::search::run`: what is reached from the search as it stands is reached from its start. The measure is what is left to search.
 use Rattle.rules.proofs.Plan.Ends.{left}
+use Rattle.planner.specs.Views.{number_in}
 use Rattle.planner.proofs.Repeats.{Underway}
 use Rattle.planner.proofs.search.run.Given as goal
 
-abbrev pub invariant-loop-at : goal.invariant-loop-at
-invariant-loop-at l = Underway l.n l.rows l.h l.room l.initial.table l.initial.area l.table l.area l.at
+abbrev pub invariant-loop-on : goal.invariant-loop-on
+invariant-loop-on l = Underway l.n l.rows l.h l.room l.initial.table l.initial.area l.table l.area l.at
 
-abbrev pub decreases-loop-at : goal.decreases-loop-at
-decreases-loop-at l = left l.room l.h l.at.recorded l.at.slot l.at.choice
+abbrev pub decreases-loop-on : goal.decreases-loop-on
+decreases-loop-on l = left l.room l.h l.at.recorded l.at.slot (number_in l.at.choice)
