@@ -1,5 +1,5 @@
 -- What is said of a refused list.
-use mathlib.Core.Path.{◌≡◌, refl, sym, ap, ◌∙◌}
+use mathlib.Core.Path.{◌≡◌, refl}
 use mathlib.Core.Logic.{◌↔◌}
 use mathlib.Core.Bool.{Bool, true, false, cond}
 use mathlib.Core.List.{List, [], ◌∷◌, ◌++◌}
@@ -8,47 +8,33 @@ use native.Mathlib.Omega.{arith}
 use borrow.Author.Tests.{eq-eqb, ne_eqb, eqb-true}
 use lib.Dec.{eqb}
 use lib.ListN.{length, take, drop, length-append, length-take, length-drop}
+use Rattle.std.specs.Prelude.{Ok, Err}
 use Rattle.rules.specs.Lists.{is_zero}
+use Rattle.tasks.specs.declared.TaskSet.{TaskSet}
+use Rattle.tasks.specs.Refusals.{number_of}
+use Rattle.tasks.proofs.Refusals.{number-some}
 use Rattle.list.specs.Reading.{read_list, reply_of, shown}
-use Rattle.list.specs.declared.Reading.{Reading}
+use Rattle.list.specs.declared.Refused.{Refused}
 use Rattle.report.specs.Texts.{decimal}
 use Rattle.report.specs.Put.{PutCut}
 use Rattle.report.specs.Help.{too_long, misformed, out_of_range, late, miscounted, too_high, sentence, place, explained, explanation}
 use Rattle.report.proofs.Put.{cut-more, cut-none}
 use Rattle.report.proofs.Numbers.{decimal-length}
 
--- ── the sentence ────────────────────────────────────────────────────────────
-
-pub sentence-last : (n : ℕ) → (n ≡ 1 → ⊥) → (n ≡ 2 → ⊥) → (n ≡ 3 → ⊥) → (n ≡ 4 → ⊥) → (n ≡ 5 → ⊥) → sentence n ≡ too_high
-unfolding sentence
-sentence-last n a b c d e = rw (ne_eqb n 1 a, ne_eqb n 2 b, ne_eqb n 3 c, ne_eqb n 4 d, ne_eqb n 5 e)
-
 -- ── the whole ───────────────────────────────────────────────────────────────
 
-module _ (bs : List ℕ) (x : Reading) (e : reply_of x ≡ read_list bs) where
-  is-refusal : (read_list bs).refusal ≡ x.refusal
-  unfolding reply_of
-  is-refusal = sym (ap (λ y. y.refusal) e)
+pub explain-none : (bs : List ℕ) (set : TaskSet) (o : List ℕ) → reply_of (Ok set) ≡ read_list bs → PutCut o 0 (explanation bs) 0 o
+unfolding explanation explained is_zero reply_of
+explain-none bs set o e = rw (← e) (cut-none o 0 (omega arith))
 
-  is-line : (read_list bs).line ≡ x.line
-  unfolding reply_of
-  is-line = sym (ap (λ y. y.line) e)
+module _ (bs : List ℕ) (x : Refused) (e : reply_of (Err x) ≡ read_list bs) {o : List ℕ} {r : ℕ} {p : List ℕ} (P : PutCut o 0 (sentence (number_of x.why)) r p) where
+  pub explain-whole : x.line ≡ 0 → PutCut o 0 (explanation bs) r p
+  unfolding explanation explained is_zero reply_of
+  explain-whole l = rw (← e, ne_eqb (number_of x.why) 0 (number-some x.why), eq-eqb x.line 0 l) P
 
-  pub explain-none : (o : List ℕ) → x.refusal ≡ 0 → PutCut o 0 (explanation bs) 0 o
-  unfolding explanation explained is_zero
-  explain-none o h = rw (eq-eqb (read_list bs).refusal 0 (is-refusal ∙ h)) (cut-none o 0 (omega arith))
-
-  module _ {o : List ℕ} {r : ℕ} {p : List ℕ} (h : x.refusal ≡ 0 → ⊥) (P : PutCut o 0 (sentence x.refusal) r p) where
-    refused : eqb (read_list bs).refusal 0 ≡ false
-    refused = ne_eqb (read_list bs).refusal 0 (λ z. h (sym is-refusal ∙ z))
-
-    pub explain-whole : x.line ≡ 0 → PutCut o 0 (explanation bs) r p
-    unfolding explanation explained is_zero
-    explain-whole l = rw (refused, eq-eqb (read_list bs).line 0 (is-line ∙ l), is-refusal) P
-
-    pub explain-line : (line : List ℕ) {s : ℕ} {q : List ℕ} → (x.line ≡ 0 → ⊥) → line ≡ shown bs (read_list bs) → PutCut p r (place x.line line) s q → PutCut o 0 (explanation bs) s q
-    unfolding explanation explained is_zero
-    explain-line line l k Q = rw (← k, refused, ne_eqb (read_list bs).line 0 (λ z. l (sym is-line ∙ z)), is-refusal, is-line) (cut-more _ _ P Q)
+  pub explain-line : {s : ℕ} {q : List ℕ} → (x.line ≡ 0 → ⊥) → x.text.now ≡ shown bs (read_list bs) → PutCut p r (place x.line x.text.now) s q → PutCut o 0 (explanation bs) s q
+  unfolding explanation explained is_zero reply_of
+  explain-line l k Q = rw (← k) (rw (← e, ne_eqb (number_of x.why) 0 (number-some x.why), ne_eqb x.line 0 l) (cut-more _ _ P Q))
 
 -- ── nothing is said exactly if the list is accepted ─────────────────────────
 

@@ -1,9 +1,8 @@
 // What the program `plan` writes, made on slices.
 #![tactic(auto)]
 
-ghost use Rattle.std.specs.Prelude.{◌≡◌};
-ghost use Rattle.rules.specs.Planner.{answered};
-ghost use Rattle.planner.specs.Views.{word_of};
+ghost use Rattle.std.specs.Prelude.{◌≡◌, Ok};
+ghost use Rattle.planner.specs.Views.{answer_of};
 ghost use Rattle.report.specs.Adds.{Adds};
 ghost use Rattle.report.specs.Put.{PutCut};
 ghost use Rattle.report.specs.Help.{explanation};
@@ -11,26 +10,26 @@ ghost use Rattle.report.specs.Reports.{answer_text, Tellable, Reported};
 
 use crate::help::{put_place, sentence};
 use crate::write::Text;
-use list::{read, refused_line};
+use list::read;
 use planner::{Answer, Word, plan};
-use tasks::set::hyper_period;
 
 mod help;
 mod write;
 
 // The text for an answer, with h slots of the table.
-fn put_answer(text: &mut Text<'_>, h: u16, word: Word, count: usize, table: &[u8])
-    requires { Tellable h (answered (word_of word) count) table.now }
+fn put_answer(text: &mut Text<'_>, h: u16, answer: Answer, table: &[u8])
+    requires { Tellable h (answer_of (Ok answer)) table.now }
     ensures same_reference { text.new.out.ghost_name ≡ text.old.out.ghost_name }
-    ensures adds { Adds text.old (answer_text h (answered (word_of word) count) table.now) text.new }
+    ensures adds { Adds text.old (answer_text h (answer_of (Ok answer)) table.now) text.new }
 {
-    match word {
+    let dead = answer.dead as u64;
+    match answer.word {
         Word::Schedule => {
-            text.line(b"schedule", &[h as u64, count as u64]);
-            text.slots(&table[..h as usize]);
+            text.line(b"schedule", &[u64::from(h), dead]);
+            text.slots(&table[..usize::from(h)]);
         }
-        Word::Infeasible => text.line(b"infeasible", &[count as u64]),
-        Word::OutOfRoom => text.line(b"out-of-room", &[count as u64]),
+        Word::Infeasible => text.line(b"infeasible", &[dead]),
+        Word::OutOfRoom => text.line(b"out-of-room", &[dead]),
     }
 }
 
@@ -42,16 +41,21 @@ pub fn report(list: &[u8], table: &mut [u8], area: &mut [u16], out: &mut [u8]) -
         return 0;
     }
     let mut text = Text::new(out);
-    let reading = read(list);
-    if reading.refusal != 0 {
-        text.line(b"refused", &[reading.refusal as u64, reading.line as u64]);
-        return text.end;
-    }
-    let set = reading.set;
-    let Answer::Answered(word, count) = plan(set, table, area) else {
+    let set = match read(list) {
+        Ok(set) => set,
+        Err(e) => {
+            text.line(b"refused", &[u64::from(u8::from(e.why)), e.line as u64]);
+            return text.end;
+        }
+    };
+    // A set that is read has both.
+    let Some(h) = set.hyper_period() else {
         return text.end;
     };
-    put_answer(&mut text, hyper_period(set), word, count, table);
+    let Ok(answer) = plan(&set, table, area) else {
+        return text.end;
+    };
+    put_answer(&mut text, h, answer, table);
     text.end
 }
 
@@ -59,15 +63,14 @@ pub fn report(list: &[u8], table: &mut [u8], area: &mut [u16], out: &mut [u8]) -
 pub fn explain(list: &[u8], out: &mut [u8]) -> usize
     ensures { PutCut out.old 0 (explanation list.now) result out.new }
 {
-    let reading = read(list);
-    if reading.refusal == 0 {
+    let Err(e) = read(list) else {
         return 0;
-    }
+    };
     let mut text = Text::new(out);
-    text.word(sentence(reading.refusal));
-    if reading.line == 0 {
+    text.word(sentence(e.why));
+    if e.line == 0 {
         return text.end;
     }
-    put_place(&mut text, reading.line as u64, refused_line(list));
+    put_place(&mut text, e.line as u64, e.text);
     text.end
 }
