@@ -7,7 +7,7 @@ use player::State;
 use std::alloc::Global;
 use std::io;
 use std::io::Write;
-use tasks::TaskSet;
+use tasks::{IDLE, TaskSet};
 
 // What a lent table and area hold, numbers that no reply holds.
 const NO_SLOT: u8 = 238;
@@ -19,16 +19,18 @@ const SHOWN: usize = 12;
 
 // The reader's reply to a list.
 pub fn reading<W: Write>(out: &mut W, list: &[u8]) -> io::Result<()> {
-    let reading = list::read(list);
-    write!(
-        out,
-        "  refusal {}, line {}, start {}, size {}: ",
-        reading.refusal, reading.line, reading.start, reading.size
-    )?;
-    if reading.refusal == 0 {
-        return writeln!(out, "{}", Set(reading.set));
+    match list::read(list) {
+        Ok(set) => writeln!(out, "  refusal 0, line 0, start 0, size 0: {}", Set(&set)),
+        Err(e) => writeln!(
+            out,
+            "  refusal {}, line {}, start {}, size {}: \"{}\"",
+            u8::from(e.why),
+            e.line,
+            e.start,
+            e.text.len(),
+            Text(e.text)
+        ),
     }
-    writeln!(out, "\"{}\"", Text(list::refused_line(list)))
 }
 
 // The lent table and area after a reply with so many records for so many tasks. Where all had room, and there are few, they are shown, in
@@ -64,24 +66,24 @@ fn buffers<W: Write>(
 fn planned<W: Write>(
     alloc: Global,
     out: &mut W,
-    set: TaskSet,
+    set: &TaskSet,
     table: &mut [u8],
     area: &mut [u16],
 ) -> io::Result<()> {
     match planner::plan(set, table, area) {
-        Answer::Refused(n) => {
-            writeln!(out, "  refused {n}")?;
-            buffers(alloc, out, table, area, set.count, 0, false)
-        }
-        Answer::Answered(word, count) => {
+        Ok(Answer { word, dead }) => {
             let name = match word {
                 Word::Schedule => "schedule",
                 Word::Infeasible => "infeasible",
                 Word::OutOfRoom => "out of room",
             };
-            writeln!(out, "  {name} {count}")?;
+            writeln!(out, "  {name} {dead}")?;
             let shown = !matches!(word, Word::OutOfRoom);
-            buffers(alloc, out, table, area, set.count, count, shown)
+            buffers(alloc, out, table, area, set.count, dead, shown)
+        }
+        Err(refusal) => {
+            writeln!(out, "  refused {}", u8::from(refusal))?;
+            buffers(alloc, out, table, area, set.count, 0, false)
         }
     }
 }
@@ -93,15 +95,14 @@ pub fn planning<W: Write>(
     list: &[u8],
     mut fields: Fields<'_>,
 ) -> io::Result<()> {
-    let read = list::read(list);
-    if read.refusal != 0 {
+    let Ok(set) = list::read(list) else {
         return reading(out, list);
-    }
+    };
     let slots = fields.next().map_or(0, number).min(5000);
     let numbers = fields.next().map_or(0, number).min(24000);
     let mut table = vec![in alloc; NO_SLOT; slots]?;
     let mut area = vec![in alloc; NO_NUMBER; numbers]?;
-    planned(alloc, out, read.set, &mut table, &mut area)
+    planned(alloc, out, &set, &mut table, &mut area)
 }
 
 // A tick with the table and the reports as the script writes them, and its reply. The new state.
@@ -115,16 +116,18 @@ fn tick<W: Write>(
     let reports = values(alloc, signs, b'0')?;
     write!(out, "  {}: ", state.slot)?;
     out.write_all(signs)?;
-    let ticked = player::tick(state, table, &reports);
-    let state = ticked.state;
-    if ticked.refusal != 0 {
-        writeln!(out, " -> refused {}", ticked.refusal)?;
-        return Ok(state);
+    match player::tick(state, table, &reports) {
+        Ok(ticked) => {
+            let runner = char::from(slot_sign(ticked.runner.unwrap_or(IDLE)));
+            let used = ticked.state.set.used().len();
+            writeln!(out, " -> {runner} {}", Faults(&ticked.faults[..used]))?;
+            Ok(ticked.state)
+        }
+        Err(refusal) => {
+            writeln!(out, " -> refused {}", u8::from(refusal))?;
+            Ok(state)
+        }
     }
-    let runner = char::from(slot_sign(ticked.runner));
-    let used = usize::from(state.set.count).min(8);
-    writeln!(out, " -> {runner} {}", Faults(&ticked.faults[..used]))?;
-    Ok(state)
 }
 
 // A play: the list, the table and the reports of each tick. A field that begins with `=` is the table from there on.
@@ -134,19 +137,17 @@ pub fn playing<W: Write>(
     list: &[u8],
     mut fields: Fields<'_>,
 ) -> io::Result<()> {
-    let read = list::read(list);
-    if read.refusal != 0 {
+    let Ok(set) = list::read(list) else {
         return reading(out, list);
-    }
+    };
     let Some(field) = fields.next() else {
         return Ok(());
     };
     let mut table = values(alloc, field, b'1')?;
-    let begun = player::start(read.set, &table);
-    if begun.refusal != 0 {
-        return writeln!(out, "  refused {}", begun.refusal);
-    }
-    let mut state = begun.state;
+    let mut state = match player::start(&set, &table) {
+        Ok(state) => state,
+        Err(refusal) => return writeln!(out, "  refused {}", u8::from(refusal)),
+    };
     for field in fields {
         match field {
             [b'=', signs @ ..] => table = values(alloc, signs, b'1')?,

@@ -1,8 +1,8 @@
 // What is written of bytes, sets, tables and faults.
+use player::Cause;
 use std::fmt;
 use std::fmt::{Display, Formatter};
-use tasks::pattern::{fields, units_at};
-use tasks::{Task, TaskSet};
+use tasks::{IDLE, Task, TaskSet};
 
 // A byte as the script writes it.
 #[derive(Drop)]
@@ -44,7 +44,7 @@ impl Display for Text<'_> {
 // The sign of a table's entry: the task's number, a dot for idle, a line for a byte that was there before.
 pub fn slot_sign(entry: u8) -> u8 {
     match entry {
-        255 => b'.',
+        IDLE => b'.',
         238 => b'_',
         0..=7 => b'1' + entry,
         _ => b'?',
@@ -60,14 +60,14 @@ pub fn into_signs(table: &mut [u8]) {
 
 // Period, deadline, steps and pattern of a task.
 #[derive(Drop)]
-struct Row(Task);
+struct Row<'a>(&'a Task);
 
-impl Display for Row {
+impl Display for Row<'_> {
     fn fmt<W: fmt::Write>(&self, f: &mut Formatter<W>) -> fmt::Result {
         let task = self.0;
         write!(f, " ({} {} {}:", task.period, task.deadline, task.steps)?;
-        for i in 0..fields(task) {
-            write!(f, " {}", units_at(task, i))?;
+        for units in task.entries() {
+            write!(f, " {units}")?;
         }
         f.write_str(")")
     }
@@ -75,27 +75,27 @@ impl Display for Row {
 
 // The number of tasks, and the tasks.
 #[derive(Drop)]
-pub struct Set(pub TaskSet);
+pub struct Set<'a>(pub &'a TaskSet);
 
-impl Display for Set {
+impl Display for Set<'_> {
     fn fmt<W: fmt::Write>(&self, f: &mut Formatter<W>) -> fmt::Result {
         let set = self.0;
         write!(f, "set {}", set.count)?;
-        for task in set.tasks.iter().take(usize::from(set.count)) {
-            write!(f, "{}", Row(*task))?;
+        for task in set.used() {
+            write!(f, "{}", Row(task))?;
         }
         Ok(())
     }
 }
 
-// Fault bytes, a digit each.
+// A digit for each task: 0, or the cause for which it was stopped.
 #[derive(Drop)]
-pub struct Faults<'a>(pub &'a [u8]);
+pub struct Faults<'a>(pub &'a [Option<Cause>]);
 
 impl Display for Faults<'_> {
     fn fmt<W: fmt::Write>(&self, f: &mut Formatter<W>) -> fmt::Result {
         for fault in self.0 {
-            write!(f, "{fault}")?;
+            write!(f, "{}", fault.map_or(0, u8::from))?;
         }
         Ok(())
     }
