@@ -3,7 +3,7 @@ use Rattle.std.proofs.Common.{◌≡◌, ◌≤◌, ◌<◌, ◌+◌, ◌-◌, �
 use native.Mathlib.Nat.{zero-add}
 use borrow.Author.Tests.{ne_eqb, eq-eqb, lt-ltb}
 use lib.ListN.{length-drop, length-map}
-use lib.Seq.{ext_get_or, get_or-take, length-take-le, take_all}
+use lib.Seq.{ext_get_or, length-take-le, take_all}
 use Rattle.std.specs.List.{list_all}
 use Rattle.std.proofs.lemmas.List.{drop_all, take-map, get_or-map}
 use Rattle.rules.specs.Lists.{tabulate, all_of, is_zero}
@@ -29,7 +29,7 @@ use Rattle.tasks.proofs.Refusals.{number-some}
 use Rattle.player.specs.declared.State.{State}
 use Rattle.player.specs.Views.{job_of, no_job, eight, jobs_of, runner_number, state_of}
 use Rattle.player.specs.Forms.{plan_fits, task_fits, tasks_fit, rest_fits, parts_fit}
-use Rattle.player.proofs.Views.{eight-length, eight-at, jobs-length, jobs-at}
+use Rattle.player.proofs.Views.{mapped, eight-length, jobs-length, plan-at, job-at}
 
 -- ── lists ───────────────────────────────────────────────────────────────────
 
@@ -42,13 +42,6 @@ drop-taken : (n : ℕ) (xs : List ℕ) → drop (length (take n xs)) xs ≡ drop
 drop-taken zero xs = refl
 drop-taken (suc n) [] = refl
 drop-taken (suc n) (x ∷ xs) = drop-taken n xs
-
--- an array read by place is the list itself
-read : {A B : Type 0} (f : A → B) (xs : List A) (d : A) (n : ℕ) → length xs ≡ n → tabulate (λ k. f (get_or xs k d)) 0 n ≡ map f xs
-read f xs d n e =
-    let l = tabulate-length (λ k. f (get_or xs k d)) 0 n in
-    let m = length-map xs f in
-    ext_get_or (f d) (tabulate (λ k. f (get_or xs k d)) 0 n) (map f xs) (omega arith) (λ k h. tabulate-at (λ k. f (get_or xs k d)) 0 n k (f d) (omega arith) ∙ rw zero-add (sym (get_or-map f xs k d (f d) (omega arith))))
 
 -- a test of what is read from a place on
 beyond : {A B : Type 0} (test : B → Bool) (f : A → B) (xs : List A) (n : ℕ) → all_of test (drop n (map f xs)) ≡ list_all (λ x. test (f x)) (drop n xs)
@@ -106,12 +99,6 @@ used-length s xs e = go (le-or-lt s.count 8)
     go (inl h) = length-take-le s.count xs (omega arith) ∙ sym (set-few s h)
     go (inr h) = ap length (take_all s.count xs (omega arith)) ∙ e ∙ sym (set_all s (omega arith))
 
-plan-at : (st : State) (i : ℕ) → i < length (set_of st.set) → get_or (take st.set.count (eight st.planned)) i 0 ≡ get_or st.planned i 0
-plan-at st i h = let f = set-fits st.set in get_or-take st.set.count (eight st.planned) i 0 (omega arith) ∙ eight-at st.planned i 0 (omega arith)
-
-job-at : (st : State) (i : ℕ) (d : model.Job) → i < length (set_of st.set) → get_or (take st.set.count (jobs_of st.jobs)) i d ≡ job_of (get_or st.jobs i no_job)
-job-at st i d h = let f = set-fits st.set in get_or-take st.set.count (jobs_of st.jobs) i d (omega arith) ∙ jobs-at st.jobs i d (omega arith)
-
 -- two tasks' tests in the order of the lists, and task by task
 by-task : (p q j u x y z w : Bool) → ((p && x) && (q && y)) && ((j && z) && (u && w)) ≡ ((p && q) && (j && u)) && ((x && y) && (z && w))
 by-task p q j u x y z w = rw (and-swap p x q y, and-swap j z u w) (and-swap (p && q) (x && y) (j && u) (z && w))
@@ -148,13 +135,15 @@ module _ (st : State) where
       → tasks_fit (state_of st) i ≡ task_fits st.slot (entry_of (get_or st.set.tasks i no_entry)) (get_or st.planned i 0) (eqb (runner_number st.last) i) (job_of (get_or st.jobs i no_job)) && tasks_fit (state_of st) (i + 1)
   unfolding task_of
   fit-step i h =
-      let f = fit-few in
+      let f = set-fits st.set in
+      let b : i < st.set.count = omega arith in
+      let e : i < 8 = omega arith in
       let p = used-length st.set (eight st.planned) (eight-length st.planned) in
       let j = used-length st.set (jobs_of st.jobs) (jobs-length st.jobs) in
       let u = set-used st.set in
       fit-is i
       ∙ rest-step st.slot (runner_number st.last) i (set_of st.set) (take st.set.count (eight st.planned)) (take st.set.count (jobs_of st.jobs)) (used (record_of st.set)) h (omega arith) (omega arith) (omega arith)
-      ∙ rw (add-one, fit-is (suc i), set_at st.set i (omega (arith, set-fits st.set)) (omega arith), plan-at st i h, job-at st i finished h, used-at st.set i no_record (omega (arith, set-fits st.set)) (omega arith)) refl
+      ∙ rw (add-one, fit-is (suc i), set_at st.set i b e, plan-at st.planned st.set.count i b e, job-at st.jobs st.set.count i finished b e, used-at st.set i no_record b e) refl
 
   abbrev fits_at : ℕ → Bool
   fits_at i = task_fits st.slot (entry_of (get_or st.set.tasks i no_entry)) (get_or st.planned i 0) (eqb (runner_number st.last) i) (job_of (get_or st.jobs i no_job))
@@ -203,9 +192,9 @@ module _ (st : State) (jobs : length st.jobs ≡ 8) where
       ≡ list_all (λ t. is_blank_task (entry_of t)) (take (8 - n) (drop n st.set.tasks)) && (list_all (λ p. p == 0) (take (8 - n) (drop n st.planned)) && list_all (λ j. is_blank_job (job_of j)) (take (8 - n) (drop n st.jobs)))
   unfolding rest_fits state_of record_of eight jobs_of is_zero
   rest-is tasks plans = rw (
-    read entry_of st.set.tasks no_entry 8 tasks,
-    read (λ p. p) st.planned 0 8 plans,
-    read job_of st.jobs no_job 8 jobs,
+    mapped entry_of st.set.tasks no_entry 8 tasks,
+    mapped (λ p. p) st.planned 0 8 plans,
+    mapped job_of st.jobs no_job 8 jobs,
     tail is_blank_task entry_of st.set.tasks st.set n refl tasks,
     tail is_zero (λ p. p) st.planned st.set n refl plans,
     tail is_blank_job job_of st.jobs st.set n refl jobs,
@@ -216,7 +205,7 @@ module _ (st : State) (jobs : length st.jobs ≡ 8) where
   last-is =
       let f = set-fits st.set in
       let l : length (take n st.jobs) ≡ n = length-take-le n st.jobs (omega arith) in
-      rw (read job_of st.jobs no_job 8 jobs, take-map job_of st.set.count st.jobs, upto st.set st.jobs jobs, l) refl
+      rw (mapped job_of st.jobs no_job 8 jobs, take-map job_of st.set.count st.jobs, upto st.set st.jobs jobs, l) refl
 
   pub parts-is : parts_fit (state_of st) ≡ tasks_fit (state_of st) 0 && (last_form (length (take n st.jobs)) (runner_number st.last) (map job_of (take n st.jobs)) && rest_fits (state_of st))
   unfolding parts_fit

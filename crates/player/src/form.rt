@@ -32,17 +32,20 @@ fn plan_fits(task: &Timed, slot: u16, progress: u16) -> bool
 }
 
 // A task's job, which ran last or not: its step within the pattern, waiting only between two steps, parts not in use zero.
-#[tactic(auto, using(std::proofs::lemmas::Bool::Decides::nat_tests), unfolding(rules::specs::Lists::is_zero, rules::specs::States::job_form, rules::specs::States::job_form_in, rules::specs::Tasks::written, crate::specs::Views::job_of, crate::specs::Views::stand_of))]
+#[tactic(auto, using(std::proofs::lemmas::Grind::common_steps), unfolding(rules::specs::Lists::is_zero, rules::specs::States::job_form, rules::specs::States::job_form_in, rules::specs::Tasks::written, crate::specs::Views::job_of, crate::specs::Views::stand_of))]
 fn job_fits(task: &Task, ran: bool, job: &Job) -> bool
     ensures { result ≡ job_form (task_of task.now) ran (job_of job.now) }
 {
+    let entries = task.entries();
     let place = 2 * usize::from(job.step);
-    let given = u16::from(job.given);
     match job.stand {
-        Stand::Ready if ran => place < task.fields() && given <= task.units_at(place),
-        Stand::Ready => place < task.fields() && given < task.units_at(place),
-        Stand::Waiting => place + 2 < task.fields() && given == 0,
-        Stand::Done | Stand::Stopped(_) => place == 0 && given == 0,
+        Stand::Ready => match entries.get(place) {
+            Some(units) if ran => job.given <= *units,
+            Some(units) => job.given < *units,
+            None => false,
+        },
+        Stand::Waiting => place + 2 < entries.len() && job.given == 0,
+        Stand::Done | Stand::Stopped(_) => job.step == 0 && job.given == 0,
     }
 }
 
@@ -76,8 +79,7 @@ fn tasks_fit(state: &State) -> bool
     ensures { result ≡ tasks_fit (state_of state.now) 0 }
 {
     for (i, task) in state.set.used().iter().enumerate() {
-        let ran = state.last.map(usize::from) == Some(i);
-        if !task_fits(task, state.slot, state.planned[i], ran, &state.jobs[i]) {
+        if !task_fits(task, state.slot, state.planned[i], state.ran(i), &state.jobs[i]) {
             return false;
         }
     }
@@ -109,7 +111,7 @@ fn is_blank(task: &Task) -> bool
 fn tasks_blank(tasks: &[Task]) -> bool
     ensures { result ≡ list_all (λ task. is_blank_task (entry_of task)) tasks.now }
 {
-    tasks.iter().all(|task| is_blank(task))
+    tasks.iter().all(is_blank)
 }
 
 #[tactic(auto, unfolding(rules::specs::Lists::is_zero, rules::specs::States::is_blank_job, rules::specs::States::is_ready_stand, crate::specs::Views::job_of, crate::specs::Views::stand_of))]

@@ -1,50 +1,26 @@
--- `player::strings::start_string` is the start of the rules on byte strings. Assumes nothing.
-use borrow.Author.Rules.{rules}
+-- Each answer of a start is that of the rules, and so is the buffer.
+use mathlib.Core.Path.{refl, ap, ◌∙◌}
+use Rattle.std.specs.Prelude.{Ok, Err}
+use Rattle.player.specs.Bytes.{set_at}
 use Rattle.player.proofs.Calls.{start-length, start-refused, start-short, start-done}
+use Rattle.player.proofs.Views.{passed_on}
 use Rattle.player.proofs.strings.start_string.Goals as goal
 
-pub returns-then-set-ne97-clause-number : goal.returns-then-set-ne97-clause-number
-returns-then-set-ne97-clause-number c = (start-length _ _ _ c.if-set-ne97.true).0
+pub returns-in_default : goal.returns-in_default
+returns-in_default c = let x = start-length c.args.set.now c.args.table.now c.args.state.now c.in_default.ensures.1 in record { number = x.number; buffer = x.buffer }
 
-pub returns-then-set-ne97-clause-buffer : goal.returns-then-set-ne97-clause-buffer
-returns-then-set-ne97-clause-buffer c = (start-length _ _ _ c.if-set-ne97.true).1
+pub returns-in_err-fresh : goal.returns-in_err-fresh
+returns-in_err-fresh c =
+    let why = c.in_err-fresh.field-0.0 in
+    let x = start-refused _ _ c.args.state.now c.in-Ok.ensures.1.long _ (c.set_from_bytes.ensures ∙ ap set_at c.in-Ok.ensures.1.same) (Err why) c.in_err-fresh.ensures why refl in
+    record { number = rw (passed_on _ _ c.from_residual.ensures.1) x.number; buffer = x.buffer }
 
-pub returns-then-reply-ne0-clause-number : goal.returns-then-reply-ne0-clause-number
-returns-then-reply-ne0-clause-number c = (let t = c in
-    let g = t in
-    let e = g in
-    start-refused _ _ _ (search rules) _ g.get_set-handed.ensures _ t.start-reply.ensures c.if-reply-ne0.true).0
+pub returns-then-state-lt-STATE_SIZE : goal.returns-then-state-lt-STATE_SIZE
+returns-then-state-lt-STATE_SIZE c =
+    let x = start-short _ _ _ c.in-Ok.ensures.1.long _ (c.set_from_bytes.ensures ∙ ap set_at c.in-Ok.ensures.1.same) (Ok c.in_ok-fresh.fresh) c.in_ok-fresh.ensures c.in_ok-fresh.fresh refl c.if-state-lt-STATE_SIZE.true in
+    record { number = x.number; buffer = x.buffer }
 
-pub returns-then-reply-ne0-clause-buffer : goal.returns-then-reply-ne0-clause-buffer
-returns-then-reply-ne0-clause-buffer c = (let t = c in
-    let g = t in
-    let e = g in
-    start-refused _ _ _ (search rules) _ g.get_set-handed.ensures _ t.start-reply.ensures c.if-reply-ne0.true).1
-
-pub returns-then-state-lt140-clause-number : goal.returns-then-state-lt140-clause-number
-returns-then-state-lt140-clause-number c = (let t = c in
-    let g = t in
-    let e = g in
-    start-short _ _ _ (search rules) _ g.get_set-handed.ensures _ t.start-reply.ensures c.if-reply-ne0.false c.if-state-lt140.true).0
-
-pub returns-then-state-lt140-clause-buffer : goal.returns-then-state-lt140-clause-buffer
-returns-then-state-lt140-clause-buffer c = (let t = c in
-    let g = t in
-    let e = g in
-    start-short _ _ _ (search rules) _ g.get_set-handed.ensures _ t.start-reply.ensures c.if-reply-ne0.false c.if-state-lt140.true).1
-
-pub returns-clause-number : goal.returns-clause-number
-returns-clause-number c = (let p = c in
-    let l = p in
-    let t = l in
-    let g = t in
-    let e = g in
-    start-done _ _ _ (search rules) _ g.get_set-handed.ensures _ t.start-reply.ensures l.if-reply-ne0.false _ l.if-state-lt140.false p.put_state.ensures).0
-
-pub returns-clause-buffer : goal.returns-clause-buffer
-returns-clause-buffer c = (let p = c in
-    let l = p in
-    let t = l in
-    let g = t in
-    let e = g in
-    start-done _ _ _ (search rules) _ g.get_set-handed.ensures _ t.start-reply.ensures l.if-reply-ne0.false _ l.if-state-lt140.false p.put_state.ensures).1
+pub returns : goal.returns
+returns c =
+    let x = start-done _ _ _ c.in-Ok.ensures.1.long _ (c.set_from_bytes.ensures ∙ ap set_at c.in-Ok.ensures.1.same) (Ok c.in_ok-fresh.fresh) c.in_ok-fresh.ensures c.in_ok-fresh.fresh refl _ c.if-state-lt-STATE_SIZE.false c.put_state.ensures in
+    record { number = x.number; buffer = x.buffer }

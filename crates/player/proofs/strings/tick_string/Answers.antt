@@ -1,269 +1,64 @@
--- `player::strings::tick_string` is the tick of the rules on byte strings. Assumes nothing.
+-- Each answer of a tick is that of the rules, and so are the buffers.
+use mathlib.Core.Path.{◌≡◌, refl, ap, ◌∙◌}
+use Prim.Native.Nat.{◌≤◌}
 use native.Mathlib.Omega.{arith}
-use Rattle.player.proofs.Ticking.{tick-unsized, tick-unformed, tick-reports, few, fit, tick-table, slot-below, tick-illegal, tick-short, tick-narrow, tick-done}
+use borrow.Author.Rules.{rules}
+use mathlib.Core.List.{◌++◌}
+use lib.ListN.{length, take, drop}
+use lib.Seq.{length-take-le}
+use Rattle.std.specs.Prelude.{Ok, Err}
+use Rattle.player.proofs.Calls.{tick-unread, tick-refused, told-few, tick-short, tick-narrow, tick-done}
+use Rattle.player.proofs.Views.{passed_on}
 use Rattle.player.proofs.strings.tick_string.Goals as goal
+use Rattle.player.proofs.strings.tick_string.Goals.{then-next-lt-STATE_SIZE-via-then-next-lt-STATE_SIZE, then-next-lt-STATE_SIZE-via-else-next-lt-STATE_SIZE+then-faults-n}
 
-pub returns-then-state-ne140-clause-number : goal.returns-then-state-ne140-clause-number
-returns-then-state-ne140-clause-number c = (let s = c.args in
-    tick-unsized s.state.now s.table.now s.reports.now s.next.now s.faults.now _ c.if-state-ne140.true c.refused.ensures).0
+pub returns-in_default : goal.returns-in_default
+returns-in_default c =
+    let x = tick-unread c.args.state.now c.args.table.now c.args.reports.now c.args.next.now c.args.faults.now (λ e. absurd (cc (c.in_default.ensures.readable.1 e))) in
+    record { number = x.number; buffer = x.buffer; shown = x.shows }
 
-pub returns-then-state-ne140-clause-buffer : goal.returns-then-state-ne140-clause-buffer
-returns-then-state-ne140-clause-buffer c = (let s = c.args in
-    tick-unsized s.state.now s.table.now s.reports.now s.next.now s.faults.now _ c.if-state-ne140.true c.refused.ensures).1.0
+pub returns-in_err-ticked : goal.returns-in_err-ticked
+returns-in_err-ticked c =
+    let why = c.in_err-ticked.field-0.0 in
+    let x = tick-refused _ _ _ c.args.next.now c.args.faults.now (c.in-Some.ensures.readable.0 refl) _ c.in-Some.ensures.value (Err why) c.in_err-ticked.ensures why refl in
+    record { number = rw (passed_on _ _ c.from_residual.ensures.1) x.number; buffer = x.buffer; shown = x.shows }
 
-pub returns-then-state-ne140-clause-shown : goal.returns-then-state-ne140-clause-shown
-returns-then-state-ne140-clause-shown c = (let s = c.args in
-    tick-unsized s.state.now s.table.now s.reports.now s.next.now s.faults.now _ c.if-state-ne140.true c.refused.ensures).1.1
+pub returns-then-next-lt-STATE_SIZE : goal.returns-then-next-lt-STATE_SIZE
+returns-then-next-lt-STATE_SIZE c =
+    let t = c.in_ok-ticked.ticked in
+    let read = c.in-Some.ensures.readable.0 refl in
+    elim c.then-next-lt-STATE_SIZE.branch [
+      then-next-lt-STATE_SIZE-via-then-next-lt-STATE_SIZE w ↦
+          let x = tick-short _ _ _ c.args.next.now c.args.faults.now read _ c.in-Some.ensures.value (Ok t) c.in_ok-ticked.ensures t refl w.if-next-lt-STATE_SIZE.true in
+          record { number = x.number; buffer = x.buffer; shown = x.shows }
+      | then-next-lt-STATE_SIZE-via-else-next-lt-STATE_SIZE+then-faults-n w ↦
+          let x = tick-narrow _ _ _ c.args.next.now c.args.faults.now read _ c.in-Some.ensures.value (Ok t) c.in_ok-ticked.ensures t refl w.if-next-lt-STATE_SIZE.false w.if-faults-n.true in
+          record { number = x.number; buffer = x.buffer; shown = x.shows }
+    ]
 
-pub returns-then-not-found-clause-number : goal.returns-then-not-found-clause-number
-returns-then-not-found-clause-number c = (let e = c in
-    let s = e.args in
-    tick-unformed s.state.now s.table.now s.reports.now s.next.now s.faults.now _ e.examine-found.ensures.formed _ c.if-not-found.true c.refused-then-not-found.ensures).0
+pub slice_bounds-shown-end : goal.slice_bounds-shown-end
+slice_bounds-shown-end c =
+    let long : length c.fault_bytes-shown.result ≡ 8 = search rules in
+    let few = told-few c.args.state.now _ _ c.args.next.now c.args.faults.now (c.in-Some.ensures.readable.0 refl) _ c.in-Some.ensures.value (Ok c.in_ok-ticked.ticked) c.in_ok-ticked.ensures _ refl in
+    omega arith
 
-pub returns-then-not-found-clause-buffer : goal.returns-then-not-found-clause-buffer
-returns-then-not-found-clause-buffer c = (let e = c in
-    let s = e.args in
-    tick-unformed s.state.now s.table.now s.reports.now s.next.now s.faults.now _ e.examine-found.ensures.formed _ c.if-not-found.true c.refused-then-not-found.ensures).1.0
+pub slice_bounds-copy_from_slice-end-3 : goal.slice_bounds-copy_from_slice-end-3
+slice_bounds-copy_from_slice-end-3 c =
+    let long : length c.fault_bytes-shown.result ≡ 8 = search rules in
+    let few = told-few c.args.state.now _ _ c.args.next.now c.args.faults.now (c.in-Some.ensures.readable.0 refl) _ c.in-Some.ensures.value (Ok c.in_ok-ticked.ticked) c.in_ok-ticked.ensures _ refl in
+    omega (arith, length-take-le (length c.args.reports.now) c.fault_bytes-shown.result (omega arith))
 
-pub returns-then-not-found-clause-shown : goal.returns-then-not-found-clause-shown
-returns-then-not-found-clause-shown c = (let e = c in
-    let s = e.args in
-    tick-unformed s.state.now s.table.now s.reports.now s.next.now s.faults.now _ e.examine-found.ensures.formed _ c.if-not-found.true c.refused-then-not-found.ensures).1.1
+pub copy_from_slice-requires : goal.copy_from_slice-requires
+copy_from_slice-requires c =
+    let n = length c.args.reports.now in
+    let long : length c.fault_bytes-shown.result ≡ 8 = search rules in
+    let few = told-few c.args.state.now _ _ c.args.next.now c.args.faults.now (c.in-Some.ensures.readable.0 refl) _ c.in-Some.ensures.value (Ok c.in_ok-ticked.ticked) c.in_ok-ticked.ensures _ refl in
+    omega (arith, length-take-le n c.args.faults.now c.if-faults-n.false, length-take-le n c.fault_bytes-shown.result (omega arith))
 
-pub returns-then-reports-state-clause-number : goal.returns-then-reports-state-clause-number
-returns-then-reports-state-clause-number c = (let d = c in
-    let e = d in
-    let s = e.args in
-    tick-reports s.state.now s.table.now s.reports.now s.next.now s.faults.now _ e.examine-found.ensures.formed d.if-not-found.false _ c.if-reports-state.true c.refused-then-reports-state.ensures).0
-
-pub returns-then-reports-state-clause-buffer : goal.returns-then-reports-state-clause-buffer
-returns-then-reports-state-clause-buffer c = (let d = c in
-    let e = d in
-    let s = e.args in
-    tick-reports s.state.now s.table.now s.reports.now s.next.now s.faults.now _ e.examine-found.ensures.formed d.if-not-found.false _ c.if-reports-state.true c.refused-then-reports-state.ensures).1.0
-
-pub returns-then-reports-state-clause-shown : goal.returns-then-reports-state-clause-shown
-returns-then-reports-state-clause-shown c = (let d = c in
-    let e = d in
-    let s = e.args in
-    tick-reports s.state.now s.table.now s.reports.now s.next.now s.faults.now _ e.examine-found.ensures.formed d.if-not-found.false _ c.if-reports-state.true c.refused-then-reports-state.ensures).1.1
-
-pub returns-then-table-found-clause-number : goal.returns-then-table-found-clause-number
-returns-then-table-found-clause-number c = (let r = c in
-    let d = r in
-    let e = d in
-    let s = e.args in
-    tick-table s.state.now s.table.now s.reports.now s.next.now s.faults.now _ e.examine-found.ensures.formed d.if-not-found.false r.if-reports-state.false _ e.examine-found.ensures.period _ c.if-table-found.true c.refused-then-table-found.ensures).0
-
-pub returns-then-table-found-clause-buffer : goal.returns-then-table-found-clause-buffer
-returns-then-table-found-clause-buffer c = (let r = c in
-    let d = r in
-    let e = d in
-    let s = e.args in
-    tick-table s.state.now s.table.now s.reports.now s.next.now s.faults.now _ e.examine-found.ensures.formed d.if-not-found.false r.if-reports-state.false _ e.examine-found.ensures.period _ c.if-table-found.true c.refused-then-table-found.ensures).1.0
-
-pub returns-then-table-found-clause-shown : goal.returns-then-table-found-clause-shown
-returns-then-table-found-clause-shown c = (let r = c in
-    let d = r in
-    let e = d in
-    let s = e.args in
-    tick-table s.state.now s.table.now s.reports.now s.next.now s.faults.now _ e.examine-found.ensures.formed d.if-not-found.false r.if-reports-state.false _ e.examine-found.ensures.period _ c.if-table-found.true c.refused-then-table-found.ensures).1.1
-
-pub returns-then-not-found-2-clause-number : goal.returns-then-not-found-2-clause-number
-returns-then-not-found-2-clause-number c = (let t = c in
-    let r = t in
-    let d = r in
-    let e = d in
-    let n = e in
-    let g = n in
-    let s = g.args in
-    tick-illegal s.state.now s.table.now s.reports.now s.next.now s.faults.now _ e.examine-found.ensures.formed d.if-not-found.false r.if-reports-state.false _ e.examine-found.ensures.period t.if-table-found.false _ _ g.get_pair-slot.ensures n.entry_at-entry.ensures _ e.examine-found.ensures.leads _ c.if-not-found-2.true c.refused-then-not-found-2.ensures).0
-
-pub returns-then-not-found-2-clause-buffer : goal.returns-then-not-found-2-clause-buffer
-returns-then-not-found-2-clause-buffer c = (let t = c in
-    let r = t in
-    let d = r in
-    let e = d in
-    let n = e in
-    let g = n in
-    let s = g.args in
-    tick-illegal s.state.now s.table.now s.reports.now s.next.now s.faults.now _ e.examine-found.ensures.formed d.if-not-found.false r.if-reports-state.false _ e.examine-found.ensures.period t.if-table-found.false _ _ g.get_pair-slot.ensures n.entry_at-entry.ensures _ e.examine-found.ensures.leads _ c.if-not-found-2.true c.refused-then-not-found-2.ensures).1.0
-
-pub returns-then-not-found-2-clause-shown : goal.returns-then-not-found-2-clause-shown
-returns-then-not-found-2-clause-shown c = (let t = c in
-    let r = t in
-    let d = r in
-    let e = d in
-    let n = e in
-    let g = n in
-    let s = g.args in
-    tick-illegal s.state.now s.table.now s.reports.now s.next.now s.faults.now _ e.examine-found.ensures.formed d.if-not-found.false r.if-reports-state.false _ e.examine-found.ensures.period t.if-table-found.false _ _ g.get_pair-slot.ensures n.entry_at-entry.ensures _ e.examine-found.ensures.leads _ c.if-not-found-2.true c.refused-then-not-found-2.ensures).1.1
-
-pub returns-then-next-lt140-clause-number : goal.returns-then-next-lt140-clause-number
-returns-then-next-lt140-clause-number c = (let l = c in
-    let t = l in
-    let r = t in
-    let d = r in
-    let e = d in
-    let n = e in
-    let g = n in
-    let s = g.args in
-    tick-short s.state.now s.table.now s.reports.now s.next.now s.faults.now _ e.examine-found.ensures.formed d.if-not-found.false r.if-reports-state.false _ e.examine-found.ensures.period t.if-table-found.false _ _ g.get_pair-slot.ensures n.entry_at-entry.ensures _ e.examine-found.ensures.leads l.if-not-found-2.false _ c.if-next-lt140.true c.refused-then-next-lt140.ensures).0
-
-pub returns-then-next-lt140-clause-buffer : goal.returns-then-next-lt140-clause-buffer
-returns-then-next-lt140-clause-buffer c = (let l = c in
-    let t = l in
-    let r = t in
-    let d = r in
-    let e = d in
-    let n = e in
-    let g = n in
-    let s = g.args in
-    tick-short s.state.now s.table.now s.reports.now s.next.now s.faults.now _ e.examine-found.ensures.formed d.if-not-found.false r.if-reports-state.false _ e.examine-found.ensures.period t.if-table-found.false _ _ g.get_pair-slot.ensures n.entry_at-entry.ensures _ e.examine-found.ensures.leads l.if-not-found-2.false _ c.if-next-lt140.true c.refused-then-next-lt140.ensures).1.0
-
-pub returns-then-next-lt140-clause-shown : goal.returns-then-next-lt140-clause-shown
-returns-then-next-lt140-clause-shown c = (let l = c in
-    let t = l in
-    let r = t in
-    let d = r in
-    let e = d in
-    let n = e in
-    let g = n in
-    let s = g.args in
-    tick-short s.state.now s.table.now s.reports.now s.next.now s.faults.now _ e.examine-found.ensures.formed d.if-not-found.false r.if-reports-state.false _ e.examine-found.ensures.period t.if-table-found.false _ _ g.get_pair-slot.ensures n.entry_at-entry.ensures _ e.examine-found.ensures.leads l.if-not-found-2.false _ c.if-next-lt140.true c.refused-then-next-lt140.ensures).1.1
-
-pub returns-then-faults-reports-clause-number : goal.returns-then-faults-reports-clause-number
-returns-then-faults-reports-clause-number c = (let m = c in
-    let l = m in
-    let t = l in
-    let r = t in
-    let d = r in
-    let e = d in
-    let n = e in
-    let g = n in
-    let s = g.args in
-    tick-narrow s.state.now s.table.now s.reports.now s.next.now s.faults.now _ e.examine-found.ensures.formed d.if-not-found.false r.if-reports-state.false _ e.examine-found.ensures.period t.if-table-found.false _ _ g.get_pair-slot.ensures n.entry_at-entry.ensures _ e.examine-found.ensures.leads l.if-not-found-2.false _ m.if-next-lt140.false c.if-faults-reports.true c.refused-then-faults-reports.ensures).0
-
-pub returns-then-faults-reports-clause-buffer : goal.returns-then-faults-reports-clause-buffer
-returns-then-faults-reports-clause-buffer c = (let m = c in
-    let l = m in
-    let t = l in
-    let r = t in
-    let d = r in
-    let e = d in
-    let n = e in
-    let g = n in
-    let s = g.args in
-    tick-narrow s.state.now s.table.now s.reports.now s.next.now s.faults.now _ e.examine-found.ensures.formed d.if-not-found.false r.if-reports-state.false _ e.examine-found.ensures.period t.if-table-found.false _ _ g.get_pair-slot.ensures n.entry_at-entry.ensures _ e.examine-found.ensures.leads l.if-not-found-2.false _ m.if-next-lt140.false c.if-faults-reports.true c.refused-then-faults-reports.ensures).1.0
-
-pub returns-then-faults-reports-clause-shown : goal.returns-then-faults-reports-clause-shown
-returns-then-faults-reports-clause-shown c = (let m = c in
-    let l = m in
-    let t = l in
-    let r = t in
-    let d = r in
-    let e = d in
-    let n = e in
-    let g = n in
-    let s = g.args in
-    tick-narrow s.state.now s.table.now s.reports.now s.next.now s.faults.now _ e.examine-found.ensures.formed d.if-not-found.false r.if-reports-state.false _ e.examine-found.ensures.period t.if-table-found.false _ _ g.get_pair-slot.ensures n.entry_at-entry.ensures _ e.examine-found.ensures.leads l.if-not-found-2.false _ m.if-next-lt140.false c.if-faults-reports.true c.refused-then-faults-reports.ensures).1.1
-
-pub slot_after-requires : goal.slot_after-requires
-slot_after-requires c =
-    let t = c in
-    let r = t in
-    let d = r in
-    let e = d in
-    let g = e in
-    let s = g.args in
-    slot-below s.state.now s.table.now s.reports.now s.next.now s.faults.now _ e.examine-found.ensures.formed d.if-not-found.false r.if-reports-state.false _ e.examine-found.ensures.period _ g.get_pair-slot.ensures
-
-pub turns_in-runner-requires-clause-reports_len_bound : goal.turns_in-runner-requires-clause-reports_len_bound
-turns_in-runner-requires-clause-reports_len_bound c =
-    let v = c in
-    let x = v in
-    let z = x in
-    let i = z in
-    let m = i in
-    let r = m in
-    let d = r in
-    let e = d in
-    let g = e in
-    let a = g in
-    let s = a.args in
-    (few s.state.now s.table.now s.reports.now s.next.now s.faults.now _ e.examine-found.ensures.formed d.if-not-found.false r.if-reports-state.false)
-
-pub turns_in-runner-requires-clause-reports_value : goal.turns_in-runner-requires-clause-reports_value
-turns_in-runner-requires-clause-reports_value c =
-    let v = c in
-    let x = v in
-    let z = x in
-    let i = z in
-    let m = i in
-    let r = m in
-    let d = r in
-    let e = d in
-    let g = e in
-    let a = g in
-    let s = a.args in
-    (fit s.state.now s.table.now s.reports.now s.next.now s.faults.now _ e.examine-found.ensures.formed d.if-not-found.false r.if-reports-state.false _ g.get_pair-slot.ensures)
-
-pub returns-clause-number : goal.returns-clause-number
-returns-clause-number c = (let u = c in
-    let v = u in
-    let x = v in
-    let y = x in
-    let z = y in
-    let i = z in
-    let m = i in
-    let l = m in
-    let t = l in
-    let r = t in
-    let k = r in
-    let d = k in
-    let e = d in
-    let n = e in
-    let g = n in
-    let a = g in
-    let s = a.args in
-    tick-done s.state.now s.table.now s.reports.now s.next.now s.faults.now _ e.examine-found.ensures.formed d.if-not-found.false r.if-reports-state.false _ e.examine-found.ensures.period t.if-table-found.false _ _ g.get_pair-slot.ensures n.entry_at-entry.ensures _ e.examine-found.ensures.leads l.if-not-found-2.false (λ j. omega (arith, c.type_inv.state j)) a.if-state-ne140.false _ _ _ _ _ _ _ _ m.if-next-lt140.false i.if-faults-reports.false e.examine-found.ensures.lands z.copy_state.ensures y.slot_after.ensures x.put_pair.ensures v.put_planned.ensures u.turns_in-runner.ensures.jobs u.turns_in-runner.ensures.shown u.turns_in-runner.ensures.runner).0
-
-pub returns-clause-buffer : goal.returns-clause-buffer
-returns-clause-buffer c = (let u = c in
-    let v = u in
-    let x = v in
-    let y = x in
-    let z = y in
-    let i = z in
-    let m = i in
-    let l = m in
-    let t = l in
-    let r = t in
-    let k = r in
-    let d = k in
-    let e = d in
-    let n = e in
-    let g = n in
-    let a = g in
-    let s = a.args in
-    tick-done s.state.now s.table.now s.reports.now s.next.now s.faults.now _ e.examine-found.ensures.formed d.if-not-found.false r.if-reports-state.false _ e.examine-found.ensures.period t.if-table-found.false _ _ g.get_pair-slot.ensures n.entry_at-entry.ensures _ e.examine-found.ensures.leads l.if-not-found-2.false (λ j. omega (arith, c.type_inv.state j)) a.if-state-ne140.false _ _ _ _ _ _ _ _ m.if-next-lt140.false i.if-faults-reports.false e.examine-found.ensures.lands z.copy_state.ensures y.slot_after.ensures x.put_pair.ensures v.put_planned.ensures u.turns_in-runner.ensures.jobs u.turns_in-runner.ensures.shown u.turns_in-runner.ensures.runner).1.0
-
-pub returns-clause-shown : goal.returns-clause-shown
-returns-clause-shown c = (let u = c in
-    let v = u in
-    let x = v in
-    let y = x in
-    let z = y in
-    let i = z in
-    let m = i in
-    let l = m in
-    let t = l in
-    let r = t in
-    let k = r in
-    let d = k in
-    let e = d in
-    let n = e in
-    let g = n in
-    let a = g in
-    let s = a.args in
-    tick-done s.state.now s.table.now s.reports.now s.next.now s.faults.now _ e.examine-found.ensures.formed d.if-not-found.false r.if-reports-state.false _ e.examine-found.ensures.period t.if-table-found.false _ _ g.get_pair-slot.ensures n.entry_at-entry.ensures _ e.examine-found.ensures.leads l.if-not-found-2.false (λ j. omega (arith, c.type_inv.state j)) a.if-state-ne140.false _ _ _ _ _ _ _ _ m.if-next-lt140.false i.if-faults-reports.false e.examine-found.ensures.lands z.copy_state.ensures y.slot_after.ensures x.put_pair.ensures v.put_planned.ensures u.turns_in-runner.ensures.jobs u.turns_in-runner.ensures.shown u.turns_in-runner.ensures.runner).1.1
+pub returns : goal.returns
+returns c =
+    let long : length c.fault_bytes-shown.result ≡ 8 = search rules in
+    let after = c.copy_from_slice.ensures.after in
+    let x = tick-done _ _ _ c.args.next.now c.args.faults.now (c.in-Some.ensures.readable.0 refl) _ c.in-Some.ensures.value (Ok c.in_ok-ticked.ticked) c.in_ok-ticked.ensures _ refl
+        c.fault_bytes-shown.result long c.fault_bytes-shown.ensures _ _ c.if-next-lt-STATE_SIZE.false c.if-faults-n.false c.put_state.ensures (ap (λ l. l ++ drop (length c.args.reports.now) c.args.faults.now) after) in
+    record { number = x.number; buffer = x.buffer; shown = x.shows }

@@ -1,8 +1,8 @@
--- `report::help::put_place` meets its contract: the parts one after the other, with the digits made in an array.
--- Assumes nothing.
-use Rattle.report.proofs.Said.{place-text}
+-- The parts one after the other.
+use Rattle.report.specs.Help.{place}
+use Rattle.report.proofs.Put.{cut-more}
 use Rattle.report.proofs.help.put_place.Goals as goal
 
-pub returns : goal.returns
-returns c =
-    place-text _ _ c.put_number-n.ensures c.put_cut-end.ensures c.put_cut-end-2.ensures c.put_cut-end-3.ensures c.put_cut-end-4.ensures c.put_cut.ensures
+pub returns-clause-adds : goal.returns-clause-adds
+unfolding place
+returns-clause-adds c = cut-more _ _ (cut-more _ _ (cut-more _ _ (cut-more _ _ c.word.ensures.adds c.number.ensures.adds) c.word-2.ensures.adds) c.word-3.ensures.adds) c.byte.ensures.adds

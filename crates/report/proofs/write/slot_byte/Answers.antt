@@ -1,5 +1,4 @@
--- `report::write::slot_byte` meets its contract. A choice that is not idle is below 8, so the sum fits a byte.
--- Assumes nothing.
+-- A choice that is not idle is below 8, so the sum fits a byte.
 use borrow.Author.Rules.{rules}
 use native.Mathlib.Omega.{arith}
 use Rattle.report.proofs.Slots.{byte-idle, byte-task, task-small}
