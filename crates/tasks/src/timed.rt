@@ -56,9 +56,9 @@ impl Timed {
     pub fn standing_at(&self, progress: u16) -> Standing
         ensures { standing_of result ≡ standing (timed_task self.now) progress }
     {
-        let mut left = progress;
+        let mut left = u32::from(progress);
         for (i, entry) in self.pattern[..self.entries].iter().enumerate() {
-            let units = u16::from(*entry);
+            let units = u32::from(*entry);
             if left < units {
                 if i % 2 == 0 {
                     return Standing::Ready;
