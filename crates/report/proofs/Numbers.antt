@@ -8,11 +8,12 @@ use native.Mathlib.Omega.{arith}
 use borrow.Author.Tests.{eq-eqb, ne_eqb}
 use native.Mathlib.Numerals.{add-one}
 use lib.ListN.{length, get_or, take, length-append}
-use lib.Seq.{take-suc}
+use lib.Seq.{take-suc, take_all}
 use Rattle.rules.specs.Lists.{is_zero}
 use Rattle.list.specs.Plain.{digits_in}
 use Rattle.report.specs.Texts.{decimal, one_number, two_numbers}
-use Rattle.report.specs.Put.{fields}
+use Rattle.report.specs.Put.{PutCut, fields}
+use Rattle.report.proofs.Put.{cut-more, cut-none}
 
 zero-yes : (n : ℕ) → n ≡ 0 → is_zero n ≡ true
 unfolding is_zero
@@ -47,10 +48,10 @@ digits-none (suc k) n (inl e) = absurd (omega arith)
 digits-none (suc k) n (inr h) = rw (zero-yes n h.1)
 
 -- the last digit behind the others
-pub digits_more : (k n : ℕ) → (k ≡ 0 → ⊥) → (n ≡ 0 → ⊥) → digits_in k n ≡ digits_in (k - 1) (n / 10) ++ (48 + n % 10) ∷ []
+pub digits_more : {o : List ℕ} {at : ℕ} (k n : ℕ) {r : ℕ} {p : List ℕ} {s : ℕ} {q : List ℕ} → (k ≡ 0 → ⊥) → (n ≡ 0 → ⊥) → PutCut o at (digits_in (k - 1) (n / 10)) r p → PutCut p r ((48 + n % 10) ∷ []) s q → PutCut o at (digits_in k n) s q
 unfolding digits_in
-digits_more zero n h g = absurd (h refl)
-digits_more (suc k) n h g = let j : suc k - 1 ≡ k = omega arith in rw (zero-no n g, j)
+digits_more zero n h g P Q = absurd (h refl)
+digits_more (suc k) n h g P Q = let j : suc k - 1 ≡ k = omega arith in rw (zero-no n g) (cut-more _ _ (rw j at P) Q)
 
 pub decimal-zero : (n : ℕ) → n ≡ 0 → decimal n ≡ 48 ∷ []
 unfolding decimal
@@ -59,6 +60,8 @@ decimal-zero n e = rw (zero-yes n e)
 pub decimal-digits : (n : ℕ) → (n ≡ 0 → ⊥) → decimal n ≡ digits_in 20 n
 unfolding decimal
 decimal-digits n h = rw (zero-no n h)
+
+pub ruleset number_laws = (cut-none, digits-none, decimal-zero, decimal-digits)
 
 -- ── numbers in a line ───────────────────────────────────────────────────────
 
@@ -71,8 +74,16 @@ fields-one : (n : ℕ) → fields (n ∷ []) ≡ 32 ∷ decimal n
 unfolding fields
 fields-one n = append-nil (32 ∷ decimal n)
 
-pub fields-next : (ns : List ℕ) (i : ℕ) → i < length ns → fields (take (i + 1) ns) ≡ fields (take i ns) ++ (32 ∷ decimal (get_or ns i 0))
-fields-next ns i h = rw (add-one i, take-suc ns i 0 h, fields-append (take i ns) (get_or ns i 0 ∷ []), fields-one (get_or ns i 0)) refl
+-- one number more
+pub fields-more : {o : List ℕ} {at : ℕ} (ns : List ℕ) (i : ℕ) {r : ℕ} {p : List ℕ} {s : ℕ} {q : List ℕ} {t : ℕ} {u : List ℕ} → i < length ns
+    → PutCut o at (fields (take i ns)) r p → PutCut p r (32 ∷ []) s q → PutCut q s (decimal (get_or ns i 0)) t u → PutCut o at (fields (take (i + 1) ns)) t u
+fields-more ns i h P Q R =
+    rw (add-one i, take-suc ns i 0 h, fields-append (take i ns) (get_or ns i 0 ∷ []), fields-one (get_or ns i 0)) (cut-more _ _ P (cut-more (32 ∷ []) _ Q R))
+
+-- the word, all numbers, and the line's end
+pub fields-all : {o : List ℕ} {at : ℕ} (word ns : List ℕ) (i : ℕ) {r : ℕ} {p : List ℕ} {s : ℕ} {q : List ℕ} {t : ℕ} {u : List ℕ} → length ns ≤ i
+    → PutCut o at word r p → PutCut p r (fields (take i ns)) s q → PutCut q s (10 ∷ []) t u → PutCut o at (word ++ fields ns ++ 10 ∷ []) t u
+fields-all word ns i h P Q R = cut-more _ _ (cut-more _ _ P (rw (take_all i ns h) at Q)) R
 
 pub one-line : (word : List ℕ) (n : ℕ) → word ++ fields (n ∷ []) ++ 10 ∷ [] ≡ one_number word n
 unfolding one_number

@@ -21,6 +21,13 @@ use Rattle.report.specs.Help.{too_long, misformed, out_of_range, late, miscounte
 use Rattle.report.proofs.Put.{cut-more, cut-none}
 use Rattle.report.proofs.Numbers.{decimal-length}
 
+-- ── the line ────────────────────────────────────────────────────────────────
+
+pub place-text : {o : List ℕ} {at : ℕ} (n : ℕ) (line : List ℕ) {e f g h r : ℕ} {p q s t u : List ℕ} → PutCut o at (76 ∷ 105 ∷ 110 ∷ 101 ∷ 32 ∷ []) e p → PutCut p e (decimal n) f q
+    → PutCut q f (58 ∷ 32 ∷ []) g s → PutCut s g line h t → PutCut t h (10 ∷ []) r u → PutCut o at (place n line) r u
+unfolding place
+place-text n line A B C D E = cut-more _ _ (cut-more _ _ (cut-more _ _ (cut-more _ _ A B) C) D) E
+
 -- ── the whole ───────────────────────────────────────────────────────────────
 
 pub explain-none : (bs : List ℕ) (set : TaskSet) (o : List ℕ) → reply_of (Ok set) ≡ read_list bs → PutCut o 0 (explanation bs) 0 o

@@ -43,6 +43,7 @@ impl<'a> Text<'a> {
         self.word(&[byte]);
     }
 
+    #[tactic(auto, using(crate::proofs::Numbers::number_laws))]
     // The digits of n, at most k of them, by recursion on the number without its last digit.
     fn digits(&mut self, k: u8, n: u64)
         ensures same_reference { self.new.out.ghost_name ≡ self.old.out.ghost_name }
@@ -55,6 +56,7 @@ impl<'a> Text<'a> {
         self.byte(b'0' + (n % 10) as u8);
     }
 
+    #[tactic(auto, using(crate::proofs::Numbers::number_laws))]
     // A number in decimal: a number of 64 bits has at most 20 digits.
     pub fn number(&mut self, n: u64)
         ensures same_reference { self.new.out.ghost_name ≡ self.old.out.ghost_name }
@@ -67,6 +69,7 @@ impl<'a> Text<'a> {
         }
     }
 
+    #[tactic(auto, using(crate::proofs::Put::none_laws), unfolding(crate::specs::Put::fields))]
     // A line of a word and numbers.
     pub fn line(&mut self, word: &[u8], numbers: &[u64])
         ensures same_reference { self.new.out.ghost_name ≡ self.old.out.ghost_name }
@@ -80,6 +83,7 @@ impl<'a> Text<'a> {
         self.byte(b'\n');
     }
 
+    #[tactic(auto, using(crate::proofs::Slots::line_laws))]
     // A line of slots.
     fn slot_line(&mut self, choices: &[u8])
         requires { All Choice choices.now }
@@ -104,6 +108,7 @@ impl<'a> Text<'a> {
     }
 }
 
+#[tactic(auto, using(crate::proofs::Slots::byte_laws))]
 // A slot's choice as it is shown: a dot for idle, else the task's number.
 fn slot_byte(choice: u8) -> u8
     requires { Choice choice }
