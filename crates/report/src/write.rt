@@ -4,6 +4,8 @@ ghost use Rattle.list.specs.Plain.{digits_in};
 ghost use Rattle.report.specs.Texts.{decimal, slot_byte, slot_lines};
 ghost use Rattle.report.specs.Put.{Choice, fields};
 
+use tasks::IDLE;
+
 // A lent buffer, and where its text ends.
 #[derive(Drop)]
 pub struct Text<'a> {
@@ -114,7 +116,7 @@ fn slot_byte(choice: u8) -> u8
     requires { Choice choice }
     ensures { result ≡ slot_byte choice }
 {
-    if choice == 255 {
+    if choice == IDLE {
         return b'.';
     }
     b'1' + choice

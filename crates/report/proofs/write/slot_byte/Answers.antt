@@ -4,4 +4,4 @@ use Rattle.report.proofs.Slots.{task-small}
 use Rattle.report.proofs.write.slot_byte.Goals as goal
 
 pub overflow_add-result : goal.overflow_add-result
-overflow_add-result c = omega (arith, task-small _ c.requires c.if-choice-eq255.false)
+overflow_add-result c = omega (arith, task-small _ c.requires c.if-choice-eq-IDLE.false)
