@@ -12,8 +12,10 @@ use lib.Seq.{take-suc, take_all}
 use Rattle.rules.specs.Lists.{is_zero}
 use Rattle.list.specs.Plain.{digits_in}
 use Rattle.report.specs.Texts.{decimal, one_number, two_numbers}
-use Rattle.report.specs.Put.{PutCut, fields}
-use Rattle.report.proofs.Put.{cut-more, cut-none}
+use Rattle.report.specs.Put.{fields}
+use Rattle.report.specs.Adds.{Adds}
+use Rattle.report.specs.declared.write.Text.{Text}
+use Rattle.report.proofs.Adds.{adds-none, adds-more}
 
 zero-yes : (n : ℕ) → n ≡ 0 → is_zero n ≡ true
 unfolding is_zero
@@ -48,10 +50,10 @@ digits-none (suc k) n (inl e) = absurd (omega arith)
 digits-none (suc k) n (inr h) = rw (zero-yes n h.1)
 
 -- the last digit behind the others
-pub digits_more : {o : List ℕ} {at : ℕ} (k n : ℕ) {r : ℕ} {p : List ℕ} {s : ℕ} {q : List ℕ} → (k ≡ 0 → ⊥) → (n ≡ 0 → ⊥) → PutCut o at (digits_in (k - 1) (n / 10)) r p → PutCut p r ((48 + n % 10) ∷ []) s q → PutCut o at (digits_in k n) s q
+pub digits_more : {a b c : Text} (k n : ℕ) → (k ≡ 0 → ⊥) → (n ≡ 0 → ⊥) → Adds a (digits_in (k - 1) (n / 10)) b → Adds b ((48 + n % 10) ∷ []) c → Adds a (digits_in k n) c
 unfolding digits_in
-digits_more zero n h g P Q = absurd (h refl)
-digits_more (suc k) n h g P Q = let j : suc k - 1 ≡ k = omega arith in rw (zero-no n g) (cut-more _ _ (rw j at P) Q)
+digits_more zero n h g A B = absurd (h refl)
+digits_more (suc k) n h g A B = let j : suc k - 1 ≡ k = omega arith in rw (zero-no n g) (adds-more _ _ (rw j at A) B)
 
 pub decimal-zero : (n : ℕ) → n ≡ 0 → decimal n ≡ 48 ∷ []
 unfolding decimal
@@ -61,7 +63,7 @@ pub decimal-digits : (n : ℕ) → (n ≡ 0 → ⊥) → decimal n ≡ digits_in
 unfolding decimal
 decimal-digits n h = rw (zero-no n h)
 
-pub ruleset number_laws = (cut-none, digits-none, decimal-zero, decimal-digits)
+pub ruleset number_laws = (adds-none, digits-none, decimal-zero, decimal-digits)
 
 -- ── numbers in a line ───────────────────────────────────────────────────────
 
@@ -75,15 +77,13 @@ unfolding fields
 fields-one n = append-nil (32 ∷ decimal n)
 
 -- one number more
-pub fields-more : {o : List ℕ} {at : ℕ} (ns : List ℕ) (i : ℕ) {r : ℕ} {p : List ℕ} {s : ℕ} {q : List ℕ} {t : ℕ} {u : List ℕ} → i < length ns
-    → PutCut o at (fields (take i ns)) r p → PutCut p r (32 ∷ []) s q → PutCut q s (decimal (get_or ns i 0)) t u → PutCut o at (fields (take (i + 1) ns)) t u
-fields-more ns i h P Q R =
-    rw (add-one i, take-suc ns i 0 h, fields-append (take i ns) (get_or ns i 0 ∷ []), fields-one (get_or ns i 0)) (cut-more _ _ P (cut-more (32 ∷ []) _ Q R))
+pub fields-more : {a b c d : Text} (ns : List ℕ) (i : ℕ) → i < length ns → Adds a (fields (take i ns)) b → Adds b (32 ∷ []) c → Adds c (decimal (get_or ns i 0)) d → Adds a (fields (take (i + 1) ns)) d
+fields-more ns i h A B C =
+    rw (add-one i, take-suc ns i 0 h, fields-append (take i ns) (get_or ns i 0 ∷ []), fields-one (get_or ns i 0)) (adds-more _ _ A (adds-more (32 ∷ []) _ B C))
 
 -- the word, all numbers, and the line's end
-pub fields-all : {o : List ℕ} {at : ℕ} (word ns : List ℕ) (i : ℕ) {r : ℕ} {p : List ℕ} {s : ℕ} {q : List ℕ} {t : ℕ} {u : List ℕ} → length ns ≤ i
-    → PutCut o at word r p → PutCut p r (fields (take i ns)) s q → PutCut q s (10 ∷ []) t u → PutCut o at (word ++ fields ns ++ 10 ∷ []) t u
-fields-all word ns i h P Q R = cut-more _ _ (cut-more _ _ P (rw (take_all i ns h) at Q)) R
+pub fields-all : {a b c d : Text} (word ns : List ℕ) (i : ℕ) → length ns ≤ i → Adds a word b → Adds b (fields (take i ns)) c → Adds c (10 ∷ []) d → Adds a (word ++ fields ns ++ 10 ∷ []) d
+fields-all word ns i h A B C = adds-more _ _ (adds-more _ _ A (rw (take_all i ns h) at B)) C
 
 pub one-line : (word : List ℕ) (n : ℕ) → word ++ fields (n ∷ []) ++ 10 ∷ [] ≡ one_number word n
 unfolding one_number

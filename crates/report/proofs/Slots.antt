@@ -16,7 +16,7 @@ use Rattle.rules.specs.Lists.{is_zero}
 use Rattle.rules.specs.Positions.{idle}
 use Rattle.report.specs.Texts.{slot_byte, slot_lines}
 use Rattle.report.specs.Put.{Choice}
-use Rattle.report.proofs.Put.{cut-more}
+use Rattle.report.proofs.Adds.{adds-none, adds-more}
 
 -- ── one slot ────────────────────────────────────────────────────────────────
 
@@ -91,4 +91,4 @@ lines-length i (c ∷ cs) h = go (eqb i 63) refl (lines-length 0 cs (omega arith
 
 pub ruleset byte_laws = (byte-idle, byte-task)
 
-pub ruleset line_laws = (cut-more, bytes-next, take_all)
+pub ruleset line_laws = (adds-none, adds-more, bytes-next, take_all)

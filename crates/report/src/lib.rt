@@ -24,8 +24,7 @@ pub const OUT: usize = 4300;
 // The text for an answer, with h slots of the table.
 fn put_answer(text: &mut Text<'_>, h: u16, answer: Answer, table: &[u8])
     requires { Tellable h (answer_of (Ok answer)) table.now }
-    ensures same_reference { text.new.out.ghost_name ≡ text.old.out.ghost_name }
-    ensures adds { Adds text.old (answer_text h (answer_of (Ok answer)) table.now) text.new }
+    ensures { Adds text.old (answer_text h (answer_of (Ok answer)) table.now) text.new }
 {
     let dead = answer.dead as u64;
     match answer.word {

@@ -10,7 +10,7 @@ use Rattle.report.proofs.report.Goals as goal
 pub returns-in-Err : goal.returns-in-Err
 unfolding refused_word
 returns-in-Err c =
-    let P = rw (c.from-in-Err.ensures, c.from.ensures) at c.line.ensures.adds in
+    let P = rw (c.from-in-Err.ensures, c.from.ensures) at c.line.ensures.put in
     refused-told _ _ _ _ (omega arith) (omega arith) c.in-Err.e c.in-Err.ensures.reply (search rules)
 
 pub returns-in_default : goal.returns-in_default

@@ -3,5 +3,5 @@ use borrow.Author.Rules.{rules}
 use Rattle.report.proofs.Said.{place-text}
 use Rattle.report.proofs.help.put_place.Goals as goal
 
-pub returns-clause-adds : goal.returns-clause-adds
-returns-clause-adds c = search (rules, place-text)
+pub returns : goal.returns
+returns c = search (rules, place-text)

@@ -3,5 +3,5 @@ use borrow.Author.Rules.{rules}
 use Rattle.report.proofs.Numbers.{digits_more}
 use Rattle.report.proofs.write.Text.+digits.Goals as goal
 
-pub returns-clause-adds : goal.returns-clause-adds
-returns-clause-adds t c = search (rules, digits_more)
+pub returns : goal.returns
+returns t c = search (rules, digits_more)

@@ -6,5 +6,5 @@ use Rattle.report.proofs.write.Text.line.Goals as goal
 pub loop-n-preserved : goal.loop-n-preserved
 loop-n-preserved c = search (rules, fields-more)
 
-pub returns-clause-adds : goal.returns-clause-adds
-returns-clause-adds c = search (rules, fields-all)
+pub returns : goal.returns
+returns c = search (rules, fields-all)
