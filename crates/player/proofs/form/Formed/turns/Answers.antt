@@ -4,6 +4,7 @@ use Prim.Native.Nat.{◌≤◌, ◌<◌}
 use native.Mathlib.Omega.{arith}
 use lib.ListN.{length, get_or}
 use Rattle.rules.specs.States.{blank_job}
+use Rattle.std.specs.Prelude.{min}
 use Rattle.player.specs.Reports.{report_number}
 use Rattle.player.specs.Turns.{turn_in, turn_for}
 use Rattle.player.specs.Views.{stand_of, job_of}
@@ -29,8 +30,9 @@ loop-i-preserved c =
     let entry = get_or c.args.table.now c.from.result 0 in
     let byte = get_or c.args.reports.now i 0 in
     let told = report_number c.from-in-loop-i.result in
+    let heard : told ≡ min byte 3 = c.from-in-loop-i.ensures in
     let taken = c.take-taken.result in
-    let same : turn_in c.turn.result told ≡ turn_for st entry i byte = c.turn.ensures told ∙ ap (turn_for st entry i) c.from-in-loop-i.ensures ∙ turn-capped st entry i byte in (
+    let same : turn_in c.turn.result told ≡ turn_for st entry i byte = c.turn.ensures told ∙ ap (turn_for st entry i) heard ∙ turn-capped st entry i byte in (
       c.loop-i.invariant.0,
       elim c.if-taken.branch [
         | then-taken w ↦ rw (w.runner-is) (search taken-runs)
