@@ -29,9 +29,9 @@ fn read_full<R: Read>(input: &mut R, buffer: &mut [u8]) -> io::Result<usize>
 fn write_plan<W: Write>(list: &[u8], out: &mut W) -> io::Result<()>
     ensures { OnOk result (TellsPlan list.now (W.contents out.old) (W.contents out.new)) }
 {
-    let mut table = [0u8; 4096];
+    let mut table = [0u8; report::TABLE];
     let mut area = [0u16; 24000];
-    let mut text = [0u8; 4300];
+    let mut text = [0u8; report::OUT];
     let size = report::report(list, &mut table, &mut area, &mut text);
     out.write_all(&text[..size])
 }
@@ -41,7 +41,7 @@ fn write_explanation<W: Write>(list: &[u8], out: &mut W) -> io::Result<()>
     requires { length list.now ≤ 4097 }
     ensures { OnOk result (Appends (W.contents out.old) (W.contents out.new) (explanation list.now)) }
 {
-    let mut text = [0u8; 4300];
+    let mut text = [0u8; report::OUT];
     let size = report::explain(list, &mut text);
     out.write_all(&text[..size])
 }

@@ -7,21 +7,20 @@ use native.Mathlib.Omega.{arith}
 use lib.Dec.{leb, eqb}
 use lib.ListN.{length, get_or, take, drop}
 use borrow.Author.Tests.{eq-eqb, ne_eqb, le-leb, lt-leb, eqb-true}
-use lib.Seq.{ext_get_or, length-take-le}
-use Rattle.std.specs.Prelude.{Option, None, Result, Ok, Err}
+use lib.Seq.{ext_get_or}
+use Rattle.std.specs.Prelude.{None, Result, Ok, Err}
 use Rattle.rules.specs.Lists.{tabulate, padded}
 use Rattle.rules.specs.Positions.{idle}
 use Rattle.rules.specs.Records.{SetRecord, or_else, set_in, record_refusal}
 use Rattle.rules.specs.Player as rules
-use Rattle.rules.specs.States.{StateRecord, StateArrays, in_use, in_use_form, rest_zero, form, tidied, as_record, is_schedule, entry_fits, StartReply, start_refusal, started_or, start_reply, TickReply, ticked, tick_refused, tick_refusal, ticked_or, tick_reply}
-use Rattle.rules.proofs.Lists.{tabulate-at, tabulate-length, clash-bool}
+use Rattle.rules.specs.States.{StateRecord, in_use, in_use_form, rest_zero, form, tidied, as_record, is_schedule, entry_fits, start_refusal, started_or, start_reply, ticked, tick_refused, tick_refusal, ticked_or, tick_reply}
+use Rattle.rules.proofs.Lists.{tabulate-at, tabulate-length}
 use Rattle.rules.proofs.Set.Tidy.{counts, set-length, padded-take}
 use Rattle.tasks.specs.declared.TaskSet.{TaskSet}
 use Rattle.tasks.specs.declared.refusal.Refusal.{Refusal}
 use Rattle.tasks.specs.Refusals.{number_of}
 use Rattle.tasks.specs.Views.{record_of}
 use Rattle.tasks.proofs.Refusals.{number-some}
-use Rattle.player.specs.declared.Cause.{Cause}
 use Rattle.player.specs.declared.State.{State}
 use Rattle.player.specs.declared.Ticked.{Ticked}
 use Rattle.player.specs.Views.{fault_number, faults_of, runner_number, state_of}

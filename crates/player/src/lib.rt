@@ -89,7 +89,10 @@ pub fn tick(state: State, table: &[u8], reports: &[u8]) -> Result<Ticked, Refusa
         return Err(Refusal::BadTable);
     }
     let State {
-        set, slot, planned, ..
+        set,
+        slot,
+        planned,
+        ..
     } = state;
     let at = Position {
         slot,

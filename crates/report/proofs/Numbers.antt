@@ -8,11 +8,14 @@ use native.Mathlib.Omega.{arith}
 use borrow.Author.Tests.{eq-eqb, ne_eqb}
 use native.Mathlib.Numerals.{add-one}
 use lib.ListN.{length, get_or, take, length-append}
-use lib.Seq.{take-suc}
+use lib.Seq.{take-suc, take_all}
 use Rattle.rules.specs.Lists.{is_zero}
 use Rattle.list.specs.Plain.{digits_in}
 use Rattle.report.specs.Texts.{decimal, one_number, two_numbers}
 use Rattle.report.specs.Put.{fields}
+use Rattle.report.specs.Adds.{Adds}
+use Rattle.report.specs.declared.write.Text.{Text}
+use Rattle.report.proofs.Adds.{adds-none, adds-more}
 
 zero-yes : (n : ℕ) → n ≡ 0 → is_zero n ≡ true
 unfolding is_zero
@@ -47,10 +50,10 @@ digits-none (suc k) n (inl e) = absurd (omega arith)
 digits-none (suc k) n (inr h) = rw (zero-yes n h.1)
 
 -- the last digit behind the others
-pub digits_more : (k n : ℕ) → (k ≡ 0 → ⊥) → (n ≡ 0 → ⊥) → digits_in k n ≡ digits_in (k - 1) (n / 10) ++ (48 + n % 10) ∷ []
+pub digits_more : {a b c : Text} (k n : ℕ) → (k ≡ 0 → ⊥) → (n ≡ 0 → ⊥) → Adds a (digits_in (k - 1) (n / 10)) b → Adds b ((48 + n % 10) ∷ []) c → Adds a (digits_in k n) c
 unfolding digits_in
-digits_more zero n h g = absurd (h refl)
-digits_more (suc k) n h g = let j : suc k - 1 ≡ k = omega arith in rw (zero-no n g, j)
+digits_more zero n h g A B = absurd (h refl)
+digits_more (suc k) n h g A B = let j : suc k - 1 ≡ k = omega arith in rw (zero-no n g) (adds-more _ _ (rw j at A) B)
 
 pub decimal-zero : (n : ℕ) → n ≡ 0 → decimal n ≡ 48 ∷ []
 unfolding decimal
@@ -59,6 +62,8 @@ decimal-zero n e = rw (zero-yes n e)
 pub decimal-digits : (n : ℕ) → (n ≡ 0 → ⊥) → decimal n ≡ digits_in 20 n
 unfolding decimal
 decimal-digits n h = rw (zero-no n h)
+
+pub ruleset number_laws = (adds-none, digits-none, decimal-zero, decimal-digits)
 
 -- ── numbers in a line ───────────────────────────────────────────────────────
 
@@ -71,8 +76,14 @@ fields-one : (n : ℕ) → fields (n ∷ []) ≡ 32 ∷ decimal n
 unfolding fields
 fields-one n = append-nil (32 ∷ decimal n)
 
-pub fields-next : (ns : List ℕ) (i : ℕ) → i < length ns → fields (take (i + 1) ns) ≡ fields (take i ns) ++ (32 ∷ decimal (get_or ns i 0))
-fields-next ns i h = rw (add-one i, take-suc ns i 0 h, fields-append (take i ns) (get_or ns i 0 ∷ []), fields-one (get_or ns i 0)) refl
+-- one number more
+pub fields-more : {a b c d : Text} (ns : List ℕ) (i : ℕ) → i < length ns → Adds a (fields (take i ns)) b → Adds b (32 ∷ []) c → Adds c (decimal (get_or ns i 0)) d → Adds a (fields (take (i + 1) ns)) d
+fields-more ns i h A B C =
+    rw (add-one i, take-suc ns i 0 h, fields-append (take i ns) (get_or ns i 0 ∷ []), fields-one (get_or ns i 0)) (adds-more _ _ A (adds-more (32 ∷ []) _ B C))
+
+-- the word, all numbers, and the line's end
+pub fields-all : {a b c d : Text} (word ns : List ℕ) (i : ℕ) → length ns ≤ i → Adds a word b → Adds b (fields (take i ns)) c → Adds c (10 ∷ []) d → Adds a (word ++ fields ns ++ 10 ∷ []) d
+fields-all word ns i h A B C = adds-more _ _ (adds-more _ _ A (rw (take_all i ns h) at B)) C
 
 pub one-line : (word : List ℕ) (n : ℕ) → word ++ fields (n ∷ []) ++ 10 ∷ [] ≡ one_number word n
 unfolding one_number

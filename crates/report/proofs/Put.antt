@@ -72,5 +72,3 @@ cut-none o at h = record { put = rw (take-nil (length o - at)) (put-none o at h)
 -- with room for all, all stands
 pub cut-whole : {o : List ℕ} {at : ℕ} {xs : List ℕ} {r : ℕ} {p : List ℕ} → length xs ≤ length o - at → PutCut o at xs r p → Put o at xs r p
 cut-whole {o = o} {at = at} {xs = xs} h C = rw (take_all (length o - at) xs h) at C.put
-
-pub ruleset parts = (cut-more, cut-none)

@@ -17,9 +17,19 @@ use Rattle.list.specs.Reading.{read_list, reply_of, shown}
 use Rattle.list.specs.declared.Refused.{Refused}
 use Rattle.report.specs.Texts.{decimal}
 use Rattle.report.specs.Put.{PutCut}
+use Rattle.report.specs.Adds.{Adds}
+use Rattle.report.specs.declared.write.Text.{Text}
 use Rattle.report.specs.Help.{too_long, misformed, out_of_range, late, miscounted, too_high, sentence, place, explained, explanation}
 use Rattle.report.proofs.Put.{cut-more, cut-none}
+use Rattle.report.proofs.Adds.{adds-more}
 use Rattle.report.proofs.Numbers.{decimal-length}
+
+-- ── the line ────────────────────────────────────────────────────────────────
+
+pub place-text : {a b c d e f : Text} (n : ℕ) (line : List ℕ) → Adds a (76 ∷ 105 ∷ 110 ∷ 101 ∷ 32 ∷ []) b → Adds b (decimal n) c → Adds c (58 ∷ 32 ∷ []) d → Adds d line e → Adds e (10 ∷ []) f
+    → Adds a (place n line) f
+unfolding place
+place-text n line A B C D E = adds-more _ _ (adds-more _ _ (adds-more _ _ (adds-more _ _ A B) C) D) E
 
 -- ── the whole ───────────────────────────────────────────────────────────────
 

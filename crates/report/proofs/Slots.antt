@@ -9,13 +9,14 @@ use native.Mathlib.Numerals.{add-one}
 use borrow.Author.Tests.{eq-eqb, ne_eqb, eqb-true, eqb-false}
 use lib.Dec.{eqb}
 use lib.ListN.{length, get_or, take, length-append}
-use lib.Seq.{take-suc}
+use lib.Seq.{take-suc, take_all}
 use Rattle.std.specs.Prelude.{All, min, map}
 use Rattle.std.proofs.lemmas.List.{map-append}
 use Rattle.rules.specs.Lists.{is_zero}
 use Rattle.rules.specs.Positions.{idle}
 use Rattle.report.specs.Texts.{slot_byte, slot_lines}
 use Rattle.report.specs.Put.{Choice}
+use Rattle.report.proofs.Adds.{adds-none, adds-more}
 
 -- ── one slot ────────────────────────────────────────────────────────────────
 
@@ -87,3 +88,7 @@ lines-length i (c ∷ cs) h = go (eqb i 63) refl (lines-length 0 cs (omega arith
         → length (slot_byte c ∷ cond b (10 ∷ slot_lines 0 cs) (slot_lines (suc i) cs)) ≤ suc (length cs) + (i + suc (length cs) + 63) / 64
     go true e m n = let q = eqb-true i 63 e in omega arith
     go false e m n = let q = eqb-false i 63 e in let k = n (omega arith) in omega arith
+
+pub ruleset byte_laws = (byte-idle, byte-task)
+
+pub ruleset line_laws = (adds-none, adds-more, bytes-next, take_all)

@@ -24,8 +24,11 @@ use Rattle.list.specs.Replies.{Admissible}
 use Rattle.list.proofs.Promises.{read-admissible}
 use Rattle.report.specs.Texts.{two_numbers, schedule_word, infeasible_word, out_of_room_word, refused_word, slot_lines, word_text, refused_text, program_table, Writes}
 use Rattle.report.specs.Put.{PutCut, Choice, fields}
+use Rattle.report.specs.Adds.{Adds}
+use Rattle.report.specs.declared.write.Text.{Text}
 use Rattle.report.specs.Reports.{answer_text, Tellable, Told, Untouched, Reported}
-use Rattle.report.proofs.Put.{cut-more, cut-whole}
+use Rattle.report.proofs.Adds.{adds-more}
+use Rattle.report.proofs.Put.{cut-whole}
 use Rattle.report.proofs.Numbers.{one-line, two-line, one-length, two-length}
 use Rattle.report.proofs.Slots.{lines-length}
 use Rattle.report.proofs.Reply.{same_text, answers, tellable}
@@ -52,18 +55,18 @@ slots-shown h n a table L q =
     let t = length-take-le h table L.slots in
     All-from_get_or Choice (take h table) 0 (λ k i. rw (get_or-take h table k 0 (omega arith)) (L.choices n q k (omega arith)))
 
-module _ {o : List ℕ} {at : ℕ} (h n : ℕ) (table : List ℕ) where
-  pub answer-schedule : {e : ℕ} {p : List ℕ} {r : ℕ} {q : List ℕ} → PutCut o at (schedule_word ++ fields (h ∷ n ∷ []) ++ 10 ∷ []) e p → PutCut p e (slot_lines 0 (take h table)) r q → PutCut o at (answer_text h (answered schedule n) table) r q
+module _ {a b : Text} (h n : ℕ) (table : List ℕ) where
+  pub answer-schedule : {c : Text} → Adds a (schedule_word ++ fields (h ∷ n ∷ []) ++ 10 ∷ []) b → Adds b (slot_lines 0 (take h table)) c → Adds a (answer_text h (answered schedule n) table) c
   unfolding answer_text word_text
-  answer-schedule P Q = cut-more _ _ (rw (two-line schedule_word h n) at P) Q
+  answer-schedule A B = adds-more _ _ (rw (two-line schedule_word h n) at A) B
 
-  pub answer-infeasible : {r : ℕ} {p : List ℕ} → PutCut o at (infeasible_word ++ fields (n ∷ []) ++ 10 ∷ []) r p → PutCut o at (answer_text h (answered infeasible n) table) r p
+  pub answer-infeasible : Adds a (infeasible_word ++ fields (n ∷ []) ++ 10 ∷ []) b → Adds a (answer_text h (answered infeasible n) table) b
   unfolding answer_text word_text
-  answer-infeasible P = rw (one-line infeasible_word n) at P
+  answer-infeasible A = rw (one-line infeasible_word n) at A
 
-  pub answer-room : {r : ℕ} {p : List ℕ} → PutCut o at (out_of_room_word ++ fields (n ∷ []) ++ 10 ∷ []) r p → PutCut o at (answer_text h (answered out_of_room n) table) r p
+  pub answer-room : Adds a (out_of_room_word ++ fields (n ∷ []) ++ 10 ∷ []) b → Adds a (answer_text h (answered out_of_room n) table) b
   unfolding answer_text word_text
-  answer-room P = rw (one-line out_of_room_word n) at P
+  answer-room A = rw (one-line out_of_room_word n) at A
 
 -- ── too little lent ─────────────────────────────────────────────────────────
 

@@ -30,8 +30,7 @@ pub fn sentence(refusal: Refusal) -> &'static [u8]
 
 // The number of a line, and the line as it stands.
 pub fn put_place(text: &mut Text<'_>, number: u64, line: &[u8])
-    ensures same_reference { text.new.out.ghost_name ≡ text.old.out.ghost_name }
-    ensures adds { Adds text.old (place number line.now) text.new }
+    ensures { Adds text.old (place number line.now) text.new }
 {
     text.word(b"Line ");
     text.number(number);

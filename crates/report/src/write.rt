@@ -4,6 +4,8 @@ ghost use Rattle.list.specs.Plain.{digits_in};
 ghost use Rattle.report.specs.Texts.{decimal, slot_byte, slot_lines};
 ghost use Rattle.report.specs.Put.{Choice, fields};
 
+use tasks::IDLE;
+
 // A lent buffer, and where its text ends.
 #[derive(Drop)]
 pub struct Text<'a> {
@@ -26,8 +28,7 @@ impl<'a> Text<'a> {
 
     // As much of a word as there is room for.
     pub fn word(&mut self, word: &[u8])
-        ensures same_reference { self.new.out.ghost_name ≡ self.old.out.ghost_name }
-        ensures adds { Adds self.old word.now self.new }
+        ensures { Adds self.old word.now self.new }
     {
         let size = word.len().min(self.out.len() - self.end);
         let end = self.end + size;
@@ -37,16 +38,15 @@ impl<'a> Text<'a> {
 
     // One byte.
     pub fn byte(&mut self, byte: u8)
-        ensures same_reference { self.new.out.ghost_name ≡ self.old.out.ghost_name }
-        ensures adds { Adds self.old (byte ∷ []) self.new }
+        ensures { Adds self.old (byte ∷ []) self.new }
     {
         self.word(&[byte]);
     }
 
+    #[tactic(auto, using(crate::proofs::Numbers::number_laws))]
     // The digits of n, at most k of them, by recursion on the number without its last digit.
     fn digits(&mut self, k: u8, n: u64)
-        ensures same_reference { self.new.out.ghost_name ≡ self.old.out.ghost_name }
-        ensures adds { Adds self.old (digits_in k n) self.new }
+        ensures { Adds self.old (digits_in k n) self.new }
     {
         if k == 0 || n == 0 {
             return;
@@ -55,10 +55,10 @@ impl<'a> Text<'a> {
         self.byte(b'0' + (n % 10) as u8);
     }
 
+    #[tactic(auto, using(crate::proofs::Numbers::number_laws))]
     // A number in decimal: a number of 64 bits has at most 20 digits.
     pub fn number(&mut self, n: u64)
-        ensures same_reference { self.new.out.ghost_name ≡ self.old.out.ghost_name }
-        ensures adds { Adds self.old (decimal n) self.new }
+        ensures { Adds self.old (decimal n) self.new }
     {
         if n == 0 {
             self.byte(b'0');
@@ -67,10 +67,10 @@ impl<'a> Text<'a> {
         }
     }
 
+    #[tactic(auto, using(crate::proofs::Adds::none_laws), unfolding(crate::specs::Put::fields))]
     // A line of a word and numbers.
     pub fn line(&mut self, word: &[u8], numbers: &[u64])
-        ensures same_reference { self.new.out.ghost_name ≡ self.old.out.ghost_name }
-        ensures adds { Adds self.old (word.now ++ fields numbers.now ++ 10 ∷ []) self.new }
+        ensures { Adds self.old (word.now ++ fields numbers.now ++ 10 ∷ []) self.new }
     {
         self.word(word);
         for n in numbers {
@@ -80,11 +80,11 @@ impl<'a> Text<'a> {
         self.byte(b'\n');
     }
 
+    #[tactic(auto, using(crate::proofs::Slots::line_laws))]
     // A line of slots.
     fn slot_line(&mut self, choices: &[u8])
         requires { All Choice choices.now }
-        ensures same_reference { self.new.out.ghost_name ≡ self.old.out.ghost_name }
-        ensures adds { Adds self.old (map slot_byte choices.now ++ 10 ∷ []) self.new }
+        ensures { Adds self.old (map slot_byte choices.now ++ 10 ∷ []) self.new }
     {
         for choice in choices {
             self.byte(slot_byte(*choice));
@@ -95,8 +95,7 @@ impl<'a> Text<'a> {
     // The slots, 64 to a line.
     pub fn slots(&mut self, slots: &[u8])
         requires { All Choice slots.now }
-        ensures same_reference { self.new.out.ghost_name ≡ self.old.out.ghost_name }
-        ensures adds { Adds self.old (slot_lines 0 slots.now) self.new }
+        ensures { Adds self.old (slot_lines 0 slots.now) self.new }
     {
         for line in slots.chunks(64) {
             self.slot_line(line);
@@ -104,12 +103,13 @@ impl<'a> Text<'a> {
     }
 }
 
+#[tactic(auto, using(crate::proofs::Slots::byte_laws))]
 // A slot's choice as it is shown: a dot for idle, else the task's number.
 fn slot_byte(choice: u8) -> u8
     requires { Choice choice }
     ensures { result ≡ slot_byte choice }
 {
-    if choice == 255 {
+    if choice == IDLE {
         return b'.';
     }
     b'1' + choice

@@ -10,14 +10,14 @@ pub slots-requires : goal.slots-requires
 unfolding answer_of word_of
 slots-requires c = rw (c.from-in-Schedule.ensures) (slots-shown _ c.args.answer.dead _ _ c.requires (ap (λ v. answered (word_of v) c.args.answer.dead) c.in-Schedule.is))
 
-pub returns-in-Schedule-clause-adds : goal.returns-in-Schedule-clause-adds
+pub returns-in-Schedule : goal.returns-in-Schedule
 unfolding answer_of word_of schedule_word
-returns-in-Schedule-clause-adds c = rw c.in-Schedule.is (answer-schedule c.args.h _ c.args.table.now (rw (c.from.ensures) at c.line.ensures.adds) (rw (c.from-in-Schedule.ensures) at c.slots.ensures.adds))
+returns-in-Schedule c = rw c.in-Schedule.is (answer-schedule c.args.h _ c.args.table.now (rw (c.from.ensures) at c.line.ensures) (rw (c.from-in-Schedule.ensures) at c.slots.ensures))
 
-pub returns-in-Infeasible-clause-adds : goal.returns-in-Infeasible-clause-adds
+pub returns-in-Infeasible : goal.returns-in-Infeasible
 unfolding answer_of word_of infeasible_word
-returns-in-Infeasible-clause-adds c = rw c.in-Infeasible.is (answer-infeasible c.args.h _ c.args.table.now c.line-in-Infeasible.ensures.adds)
+returns-in-Infeasible c = rw c.in-Infeasible.is (answer-infeasible c.args.h _ c.args.table.now c.line-in-Infeasible.ensures)
 
-pub returns-in-OutOfRoom-clause-adds : goal.returns-in-OutOfRoom-clause-adds
+pub returns-in-OutOfRoom : goal.returns-in-OutOfRoom
 unfolding answer_of word_of out_of_room_word
-returns-in-OutOfRoom-clause-adds c = rw c.in-OutOfRoom.is (answer-room c.args.h _ c.args.table.now c.line-in-OutOfRoom.ensures.adds)
+returns-in-OutOfRoom c = rw c.in-OutOfRoom.is (answer-room c.args.h _ c.args.table.now c.line-in-OutOfRoom.ensures)

@@ -1,10 +1,9 @@
 -- Each answer of a tick is that of the rules, and so are the buffers.
-use mathlib.Core.Path.{◌≡◌, refl, ap, ◌∙◌}
-use Prim.Native.Nat.{◌≤◌}
+use mathlib.Core.Path.{◌≡◌, refl, ap}
 use native.Mathlib.Omega.{arith}
 use borrow.Author.Rules.{rules}
 use mathlib.Core.List.{◌++◌}
-use lib.ListN.{length, take, drop}
+use lib.ListN.{length, drop}
 use lib.Seq.{length-take-le}
 use Rattle.std.specs.Prelude.{Ok, Err}
 use Rattle.player.proofs.Calls.{tick-unread, tick-refused, told-few, tick-short, tick-narrow, tick-done}
@@ -28,7 +27,7 @@ returns-then-next-lt-STATE_SIZE c =
     let t = c.in_ok-ticked.ticked in
     let read = c.in-Some.ensures.readable.0 refl in
     elim c.then-next-lt-STATE_SIZE.branch [
-      then-next-lt-STATE_SIZE-via-then-next-lt-STATE_SIZE w ↦
+      | then-next-lt-STATE_SIZE-via-then-next-lt-STATE_SIZE w ↦
           let x = tick-short _ _ _ c.args.next.now c.args.faults.now read _ c.in-Some.ensures.value (Ok t) c.in_ok-ticked.ensures t refl w.if-next-lt-STATE_SIZE.true in
           record { number = x.number; buffer = x.buffer; shown = x.shows }
       | then-next-lt-STATE_SIZE-via-else-next-lt-STATE_SIZE+then-faults-n w ↦
@@ -60,5 +59,5 @@ returns c =
     let long : length c.fault_bytes-shown.result ≡ 8 = search rules in
     let after = c.copy_from_slice.ensures.after in
     let x = tick-done _ _ _ c.args.next.now c.args.faults.now (c.in-Some.ensures.readable.0 refl) _ c.in-Some.ensures.value (Ok c.in_ok-ticked.ticked) c.in_ok-ticked.ensures _ refl
-        c.fault_bytes-shown.result long c.fault_bytes-shown.ensures _ _ c.if-next-lt-STATE_SIZE.false c.if-faults-n.false c.put_state.ensures (ap (λ l. l ++ drop (length c.args.reports.now) c.args.faults.now) after) in
+    c.fault_bytes-shown.result long c.fault_bytes-shown.ensures _ _ c.if-next-lt-STATE_SIZE.false c.if-faults-n.false c.put_state.ensures (ap (λ l. l ++ drop (length c.args.reports.now) c.args.faults.now) after) in
     record { number = x.number; buffer = x.buffer; shown = x.shows }

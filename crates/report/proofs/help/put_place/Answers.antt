@@ -1,8 +1,7 @@
 -- The parts one after the other.
-use Rattle.report.specs.Help.{place}
-use Rattle.report.proofs.Put.{cut-more}
+use borrow.Author.Rules.{rules}
+use Rattle.report.proofs.Said.{place-text}
 use Rattle.report.proofs.help.put_place.Goals as goal
 
-pub returns-clause-adds : goal.returns-clause-adds
-unfolding place
-returns-clause-adds c = cut-more _ _ (cut-more _ _ (cut-more _ _ (cut-more _ _ c.word.ensures.adds c.number.ensures.adds) c.word-2.ensures.adds) c.word-3.ensures.adds) c.byte.ensures.adds
+pub returns : goal.returns
+returns c = search (rules, place-text)

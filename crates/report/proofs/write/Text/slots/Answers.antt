@@ -1,10 +1,10 @@
 -- One line more, until no slot is left.
 use borrow.Author.Rules.{rules}
-use mathlib.Core.Path.{refl, sym, ap, ◌∙◌}
+use mathlib.Core.Path.{sym, ap, ◌∙◌}
 use mathlib.Core.List.{[], ◌∷◌, ◌++◌, append_assoc, append-nil}
 use Rattle.std.specs.Prelude.{map}
 use Rattle.report.specs.Texts.{slot_byte, slot_lines}
-use Rattle.report.proofs.Put.{cut-more, cut-none}
+use Rattle.report.proofs.Adds.{adds-more, adds-none}
 use Rattle.report.proofs.Slots.{choices-behind, lines-next, lines-none}
 use Rattle.report.proofs.write.Text.slots.Goals as goal
 
@@ -12,9 +12,8 @@ pub loop-line-init : goal.loop-line-init
 loop-line-init c = rw (c.into_iter-line-iterator.ensures.into_iter_gives) record {
   size = c.chunks-line-items.ensures.size;
   choices = search rules;
-  same = refl;
   done = [];
-  adds = cut-none _ _ c.args.self.now.within;
+  adds = adds-none _;
   rest = ap (slot_lines 0) (sym c.chunks-line-items.ensures.rest);
 }
 
@@ -24,16 +23,15 @@ loop-line-preserved c =
     record {
       size = s.0 ∙ I.size;
       choices = choices-behind c.in-Some.line.now c.next.new.self.rest.now (rw (s.1.0) at I.choices);
-      same = c.slot_line.ensures.same_reference ∙ I.same;
       done = I.done ++ (map slot_byte c.in-Some.line.now ++ 10 ∷ []);
-      adds = cut-more _ _ I.adds c.slot_line.ensures.adds;
+      adds = adds-more _ _ I.adds c.slot_line.ensures;
       rest = I.rest
           ∙ ap (λ l. I.done ++ slot_lines 0 l) s.1.0
           ∙ ap (λ l. I.done ++ l) (lines-next c.in-Some.line.now c.next.new.self.rest.now (rw (I.size, s.1.0) at s.1.1) (rw (s.1.0) at s.1.2))
           ∙ sym (append_assoc I.done (map slot_byte c.in-Some.line.now ++ 10 ∷ []) (slot_lines 0 c.next.new.self.rest.now));
     }
 
-pub returns-clause-adds : goal.returns-clause-adds
-returns-clause-adds c =
+pub returns : goal.returns
+returns c =
     let I = c.loop-line.invariant in
     rw (I.rest, lines-none _ c.in-None.ensures.steps.1.0, append-nil I.done) I.adds

@@ -2,15 +2,15 @@
 use Rattle.std.proofs.Common.{◌≡◌, ◌++◌, List, ℕ}
 use Rattle.std.specs.Prelude.{All}
 use Rattle.report.specs.Texts.{slot_lines}
-use Rattle.report.specs.Put.{PutCut, Choice}
+use Rattle.report.specs.Put.{Choice}
+use Rattle.report.specs.Adds.{Adds}
 use Rattle.report.proofs.write.Text.slots.Given as goal
 
 abbrev pub invariant-loop-line : goal.invariant-loop-line
 invariant-loop-line l = record {
   size : l.line-iterator.size ≡ 64;
   choices : All Choice l.line-iterator.rest.now;
-  same : l.self.out.ghost_name ≡ l.initial.self.out.ghost_name;
   done : List ℕ;
-  adds : PutCut l.initial.self.out.now l.initial.self.end done l.self.end l.self.out.now;
+  adds : Adds l.initial.self done l.self;
   rest : slot_lines 0 l.slots ≡ done ++ slot_lines 0 l.line-iterator.rest.now;
 }
