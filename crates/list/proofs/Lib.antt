@@ -1,7 +1,6 @@
 pub mod Tests
 pub mod Lines
 pub mod Words
-pub mod Numbers
 pub mod Reader
 pub mod Pattern
 pub mod OneLine

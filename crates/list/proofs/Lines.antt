@@ -1,63 +1,42 @@
--- The lines of a text in the code's terms: the first line from a place on, how long it is, and what follows it.
-use mathlib.Core.Bool.{Bool, true, false, cond}
+-- The lines of a text by the place of its first line feed.
+use mathlib.Core.Bool.{true, false, not, cond}
 use mathlib.Core.List.{List, [], ◌∷◌}
-use mathlib.Core.Path.{◌≡◌, refl, ap, ◌∙◌}
-use Prim.Native.Nat.{ℕ, suc, ◌+◌, ◌-◌, ◌≤◌, ◌<◌}
-use native.Mathlib.Numerals.{add-one}
+use mathlib.Core.Path.{◌≡◌, refl, sym, ap, ◌∙◌}
+use Prim.Native.Nat.{ℕ, suc, ◌+◌, ◌-◌, ◌<◌}
+use native.Mathlib.Numerals.{unary_clauses, add-one}
 use native.Mathlib.Omega.{arith}
-use lib.ListN.{length, get_or, take, drop, length-drop}
-use lib.Seq.{drop-cons, drop-length, drop-drop}
+use Rattle.std.specs.Prelude.{Some, None, position}
+use Rattle.std.specs.List.{position_or_len}
+use Rattle.std.proofs.lemmas.List.{take_rest}
+use lib.ListN.{length, take, drop, drop_of_length-le}
+use lib.Seq.{take_all, take-length, length-take-le}
+use Rattle.list.proofs.Tests.{position-at, position-none}
 use Rattle.list.specs.Text.{ends_line, onto, lines}
+use Rattle.list.specs.Inner.{IsFirstLine}
 
--- the first line of a text
-abbrev pub first_line : List ℕ → List ℕ
-first_line bs = get_or (lines bs) 0 []
-
-onto-first : (b : ℕ) (ls : List (List ℕ)) → length (get_or (onto b ls) 0 []) ≡ suc (length (get_or ls 0 []))
-unfolding onto
-onto-first b [] = refl
-onto-first b (l ∷ ls) = refl
-
-module _ (s : List ℕ) (i : ℕ) where
-  pub at-end : i ≡ length s → length (first_line (drop i s)) ≡ 0
-  unfolding lines
-  at-end e = rw (e, drop-length)
-
-  pub at-feed : i < length s → ends_line (get_or s i 0) ≡ true → length (first_line (drop i s)) ≡ 0
-  unfolding lines
-  at-feed h e = rw (drop-cons s i 0, e)
-
-  pub at_other : i < length s → ends_line (get_or s i 0) ≡ false → length (first_line (drop i s)) ≡ suc (length (first_line (drop (i + 1) s)))
-  unfolding lines
-  at_other h e = rw (add-one, drop-cons s i 0, e) (onto-first (get_or s i 0) (lines (drop (suc i) s)))
-
-pub first_short : (bs : List ℕ) → length (first_line bs) ≤ length bs
-unfolding lines
-first_short [] = omega arith
-first_short (b ∷ bs) = go (ends_line b) (first_short bs)
-  where
-    go : (t : Bool) → length (first_line bs) ≤ length bs → length (get_or (cond t ([] ∷ lines bs) (onto b (lines bs))) 0 []) ≤ suc (length bs)
-    go true h = omega arith
-    go false h = omega (arith, onto-first b (lines bs))
-
--- a text that isn't empty is its first line and the lines behind that line's end
-pub lines_cons : (bs : List ℕ) → 0 < length bs → lines bs ≡ take (length (first_line bs)) bs ∷ lines (drop (suc (length (first_line bs))) bs)
+lines_first : (s : List ℕ) → 0 < length s → lines s ≡ take (position_or_len ends_line s) s ∷ lines (drop (position_or_len ends_line s + 1) s)
 unfolding lines onto
-lines_cons [] h = absurd (omega arith)
-lines_cons (b ∷ []) h = elim (ends_line b) as (λ t. let ls = cond t ([] ∷ []) ((b ∷ []) ∷ []) in
-    ls ≡ take (length (get_or ls 0 [])) (b ∷ []) ∷ lines (drop (suc (length (get_or ls 0 []))) (b ∷ []))) [ true ↦ refl | false ↦ refl ]
-lines_cons (b ∷ (a ∷ bs)) h =
-    let e = lines_cons (a ∷ bs) (omega arith) in
-    elim (ends_line b) as (λ t. let ls = cond t ([] ∷ lines (a ∷ bs)) (onto b (lines (a ∷ bs))) in
-    ls ≡ take (length (get_or ls 0 [])) (b ∷ (a ∷ bs)) ∷ lines (drop (suc (length (get_or ls 0 []))) (b ∷ (a ∷ bs)))) [ true ↦ refl | false ↦ rw (onto-first b (lines (a ∷ bs))) (ap (onto b) e) ]
+lines_first [] h = absurd (omega arith)
+lines_first (b ∷ []) h = elim (ends_line b) as (λ t. let n = cond (not t) (1 + 0) 0 in
+    cond t ([] ∷ []) ((b ∷ []) ∷ []) ≡ take n (b ∷ []) ∷ lines (drop (n + 1) (b ∷ []))) [ true ↦ refl | false ↦ refl ]
+lines_first (b ∷ (a ∷ bs)) h =
+    let e = lines_first (a ∷ bs) (omega arith) in
+    let k : 1 + position_or_len ends_line (a ∷ bs) ≡ suc (position_or_len ends_line (a ∷ bs)) = omega arith in
+    elim (ends_line b) as (λ t. let n = cond (not t) (1 + position_or_len ends_line (a ∷ bs)) 0 in
+    cond t ([] ∷ lines (a ∷ bs)) (onto b (lines (a ∷ bs))) ≡ take n (b ∷ (a ∷ bs)) ∷ lines (drop (n + 1) (b ∷ (a ∷ bs)))) [ true ↦ refl | false ↦ rw k (simp unary_clauses (rw add-one at (ap (onto b) e))) ]
 
--- the same from a place on
-module _ (s : List ℕ) (at n : ℕ) (h : at < length s) (e : n ≡ length (first_line (drop at s))) where
-  pub line-fits : at + n ≤ length s
-  line-fits = omega (arith, first_short (drop at s), length-drop at s)
+pub line_cut : (s : List ℕ) (i : ℕ) → position ends_line s ≡ Some i → IsFirstLine s (take i s) (take (length s - (i + 1)) (drop (i + 1) s))
+line_cut s i e =
+    let f = position-at ends_line s i e in
+    let n : length (take i s) ≡ i = length-take-le i s (omega arith) in
+    record { parts = λ h. rw (take_rest s (i + 1), f.0) (lines_first s h); line = rw n; behind = rw n (take_rest s (i + 1)) }
 
-  pub lines_from : lines (drop at s) ≡ take (at + n - at) (drop at s) ∷ lines (drop (at + n + 1) s)
-  lines_from =
-      let k : at + n - at ≡ length (first_line (drop at s)) = omega arith in
-      let d : at + n + 1 ≡ at + suc (length (first_line (drop at s))) = omega arith in
-      lines_cons (drop at s) (omega (arith, length-drop at s)) ∙ rw (k, d, drop-drop)
+pub line_whole : (s : List ℕ) → position ends_line s ≡ None → IsFirstLine s s []
+line_whole s e =
+    let f = position-none ends_line s e in
+    let z : drop (length s + 1) s ≡ [] = drop_of_length-le s (omega arith) in
+    record {
+      parts = λ h. lines_first s h ∙ rw (take_all (position_or_len ends_line s) s f, drop_of_length-le s {i = position_or_len ends_line s + 1} (omega arith));
+      line = sym (take-length s);
+      behind = sym z;
+    }

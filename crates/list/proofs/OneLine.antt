@@ -1,37 +1,36 @@
--- A line's refusal and task, by its fields and its units as the code holds them.
-use mathlib.Core.Bool.{Bool, true, false, cond, ◌&&◌, ◌||◌, and-false}
-use mathlib.Core.List.{List, [], ◌∷◌, ◌++◌, map}
+-- A line's refusal and task, by the numbers of its fields.
+use mathlib.Core.Bool.{Bool, true, false, ◌&&◌, ◌||◌, and-false}
+use mathlib.Core.List.{List, [], ◌∷◌, map}
 use mathlib.Core.Logic.{◌⊎◌, inl, inr, ⊎_elim}
 use mathlib.Core.Path.{◌≡◌, refl, sym, ap, ◌∙◌}
 use Prim.Native.Nat.{ℕ, ◌+◌, ◌-◌, ◌/◌, ◌≤◌, ◌<◌}
 use native.Mathlib.Omega.{arith}
+use Rattle.std.specs.Prelude.{Option, Some, None}
+use Rattle.std.proofs.lemmas.List.{take_rest}
 use borrow.Author.Tests.{eqb-true, ne_eqb, leb-false, le-leb}
 use lib.Dec.{leb, eqb, leb-zero}
-use lib.ListN.{length, get_or, drop, replicate, length-map, length-drop, length-append, length-replicate, get_or-append}
-use lib.Seq.{drop-append-le, take_at, ext_get_or}
+use lib.ListN.{length, get_or, take, drop, replicate, length-map, length-drop, length-append, length-replicate}
+use lib.Seq.{ext_get_or}
 use Rattle.rules.specs.Lists.{all_of, padded, tabulate}
 use Rattle.rules.specs.Records.{TaskRecord, between, all_between, pattern_of, task_refusal}
-use Rattle.rules.proofs.Lists.{clash-bool, tabulate-length, tabulate-at}
+use Rattle.rules.proofs.Lists.{tabulate-length, tabulate-at}
 use Rattle.rules.proofs.Set.Tidy.{padded-take}
 use Rattle.tasks.specs.declared.Task.{Task}
 use Rattle.tasks.specs.Views.{entry_of}
-use Rattle.list.specs.declared.fields.Fields.{Fields}
-use Rattle.list.specs.declared.line.Units.{Units}
 use Rattle.list.specs.Text.{words}
 use Rattle.list.specs.Reading.{is_field, number, right_count, well_formed, task_from, line_task, line_refusal}
 use Rattle.list.specs.Inner.{fields_of, units_of}
-use Rattle.list.proofs.Numbers.{held}
-use Rattle.list.proofs.Pattern.{units_in}
+use Rattle.list.proofs.Reader.{held}
 
 -- ── the number of fields ────────────────────────────────────────────────────
 
 -- what a right number of fields is: m steps and m - 1 waits behind T and D
-pub record Right (n : ℕ) : Type 0 where
-  pub low : 3 ≤ n
-  pub high : n ≤ 9
-  pub some : 1 ≤ (n - 1) / 2
-  pub most : (n - 1) / 2 ≤ 4
-  pub odd : (n - 1) / 2 + (n - 1) / 2 - 1 ≡ n - 2
+record Right (n : ℕ) : Type 0 where
+  low : 3 ≤ n
+  high : n ≤ 9
+  some : 1 ≤ (n - 1) / 2
+  most : (n - 1) / 2 ≤ 4
+  odd : (n - 1) / 2 + (n - 1) / 2 - 1 ≡ n - 2
 
 or_cases : (a b : Bool) → (a || b) ≡ true → (a ≡ true) ⊎ (b ≡ true)
 or_cases true b e = inl e
@@ -42,7 +41,7 @@ right-at m h k =
     let e : (m + m + 1 - 1) / 2 ≡ m = omega arith in
     record { low = omega arith; high = omega arith; some = omega arith; most = omega arith; odd = omega arith }
 
-pub right : (n : ℕ) → right_count n ≡ true → Right n
+right : (n : ℕ) → right_count n ≡ true → Right n
 unfolding right_count
 right n e =
     ⊎_elim (at 1 (omega arith) (omega arith))
@@ -62,10 +61,6 @@ many-wrong n h = rw (ne_eqb n 3 (omega arith), ne_eqb n 5 (omega arith), ne_eqb 
 
 -- ── units ───────────────────────────────────────────────────────────────────
 
--- behind the first two of some numbers, whatever is behind those
-behind-two : (ns zs : List ℕ) (n : ℕ) → length ns ≡ n → 2 ≤ n → units_in (ns ++ zs) n ≡ drop 2 ns
-behind-two ns zs n e h = rw (drop-append-le 2 ns zs (omega arith)) (take_at (drop 2 ns) zs (n - 2) (length-drop 2 ns ∙ ap (λ (k : ℕ). k - 2) e))
-
 -- a unit above 255 is outside 1 to 255
 above : (us : List ℕ) → all_between 0 255 us ≡ false → all_between 1 255 us ≡ false
 unfolding all_between between
@@ -76,14 +71,21 @@ above (x ∷ us) e = go (leb x 255) refl (above us)
     go false h f = rw (h, and-false)
     go true h f = rw (f (rw (leb-zero, h) at e), and-false)
 
-pub units-ok : (u : Units) (us : List ℕ) → u ≡ units_of us → all_between 0 255 us ≡ u.ok
+units-none : (us : List ℕ) → None ≡ units_of us → all_between 0 255 us ≡ false
 unfolding units_of
-units-ok u us e = elim (all_between 0 255 us) as (λ t. u ≡ cond t (record { ok = true; pattern = padded 7 0 us }) (record { ok = false; pattern = replicate 7 0 }) → t ≡ u.ok)
-    [ true ↦ (λ h. sym (ap (λ (u : Units). u.ok) h)) | false ↦ (λ h. sym (ap (λ (u : Units). u.ok) h)) ] e
+units-none us e = go (all_between 0 255 us) refl
+  where
+    go : (t : Bool) → all_between 0 255 us ≡ t → all_between 0 255 us ≡ false
+    go true h = let k : ◌≡◌ {A = Option (List ℕ)} None (Some (padded 7 0 us)) = e ∙ rw h in absurd cc
+    go false h = h
 
-units-bytes : (u : Units) (us : List ℕ) → u ≡ units_of us → u.ok ≡ true → u.pattern ≡ padded 7 0 us
+units-some : (p us : List ℕ) → Some p ≡ units_of us → p ≡ padded 7 0 us
 unfolding units_of
-units-bytes u us e h = let k : all_between 0 255 us ≡ true = units-ok u us e ∙ h in ap (λ (u : Units). u.pattern) e ∙ rw k
+units-some p us e = go (all_between 0 255 us) refl
+  where
+    go : (t : Bool) → all_between 0 255 us ≡ t → p ≡ padded 7 0 us
+    go true h = let k : ◌≡◌ {A = Option (List ℕ)} (Some p) (Some (padded 7 0 us)) = e ∙ rw h in cc
+    go false h = let k : ◌≡◌ {A = Option (List ℕ)} (Some p) None = e ∙ rw h in absurd cc
 
 -- an array of seven read by place is itself
 tabulated : (p : List ℕ) → length p ≡ 7 → tabulate (λ i. get_or p i 0) 0 7 ≡ p
@@ -96,85 +98,74 @@ unfolding padded
 padded-seven us h = length-append us (replicate (7 - length us) 0) ∙ omega (arith, length-replicate {A = ℕ} (7 - length us) 0)
 
 -- a task with right steps and a unit outside its range
-refused-three : (r : TaskRecord) → 1 ≤ r.steps → r.steps ≤ 4 → all_between 1 255 (pattern_of r) ≡ false → 3 ≡ task_refusal r
+refused-three : (r : TaskRecord) → 1 ≤ r.steps → r.steps ≤ 4 → all_between 1 255 (pattern_of r) ≡ false → task_refusal r ≡ 3
 unfolding task_refusal between
 refused-three r a b e = rw (le-leb 1 r.steps a, le-leb r.steps 4 b, e, and-false, and-false)
 
--- ── refusal 2 ───────────────────────────────────────────────────────────────
+-- ── a line ──────────────────────────────────────────────────────────────────
 
-module _ (l : List ℕ) (f : Fields) (e : f ≡ fields_of (words l)) where
-  abbrev ns : List ℕ
-  ns = map number (words l)
-
-  ill : well_formed l ≡ false → 2 ≡ line_refusal 0 l
+module _ (l : List ℕ) where
+  ill : well_formed l ≡ false → line_refusal 0 l ≡ 2
   unfolding line_refusal
   ill h = rw h
 
-  pub refuse-words : f.ok ≡ false → 2 ≡ line_refusal 0 l
+  pub refuse_words : None ≡ fields_of (words l) → line_refusal 0 l ≡ 2
   unfolding fields_of well_formed
-  refuse-words h = ill (go (all_of is_field (words l)) (leb (length (words l)) 9) refl refl)
+  refuse_words e = ill (go (all_of is_field (words l)) (leb (length (words l)) 9) refl refl)
     where
       go : (t u : Bool) → all_of is_field (words l) ≡ t → leb (length (words l)) 9 ≡ u → (all_of is_field (words l) && right_count (length (words l))) ≡ false
       go false u p q = rw p
       go true false p q = rw (p, many-wrong (length (words l)) (leb-false (length (words l)) 9 q))
-      go true true p q = clash-bool (sym h ∙ ap (λ (f : Fields). f.ok) e ∙ rw (p, q))
+      go true true p q = let k : ◌≡◌ {A = Option (List ℕ)} None (Some (map number (words l))) = e ∙ rw (p, q) in absurd cc
 
-  module _ (g : f.ok ≡ true) where
-    pub refuse-count : right_count f.count ≡ false → 2 ≡ line_refusal 0 l
+  module _ (ns : List ℕ) (e : Some ns ≡ fields_of (words l)) where
+    ns-are : ns ≡ map number (words l)
+    ns-are = (held ns (words l) e).numbers
+
+    many : length (words l) ≡ length ns
+    many = sym (ap length ns-are ∙ length-map (words l) number)
+
+    pub refuse_count : right_count (length ns) ≡ false → line_refusal 0 l ≡ 2
     unfolding well_formed
-    refuse-count h = ill (rw (sym (held f (words l) e g).many, h, and-false))
+    refuse_count h = ill (rw (many, h, and-false))
 
-    -- ── the numbers ───────────────────────────────────────────────────────────
-
-    module _ (k : right_count f.count ≡ true) where
-      pub count-right : Right f.count
-      count-right = right f.count k
-
-      well : well_formed l ≡ true
-      unfolding well_formed
-      well = rw ((held f (words l) e g).all, sym (held f (words l) e g).many, k)
-
+    module _ (k : right_count (length ns) ≡ true) where
       -- a well-formed line is refused as its task is
-      by-task : task_refusal (line_task l) ≡ line_refusal 0 l
-      unfolding line_refusal
-      by-task = rw well
+      by-task : line_refusal 0 l ≡ task_refusal (line_task l)
+      unfolding line_refusal well_formed
+      by-task = rw ((held ns (words l) e).all, many, k)
 
-      ns-many : length ns ≡ f.count
-      ns-many = length-map (words l) number ∙ sym (held f (words l) e g).many
-
-      units-are : units_in f.values f.count ≡ drop 2 ns
-      unfolding padded
-      units-are = rw (held f (words l) e g).values (behind-two ns (replicate (9 - length ns) 0) f.count ns-many (omega (arith, count-right.low)))
-
-      steps-are : (line_task l).steps ≡ (f.count - 1) / 2
+      steps-are : (line_task l).steps ≡ (length ns - 1) / 2
       unfolding line_task task_from
-      steps-are = ap (λ (n : ℕ). (n - 1) / 2) ns-many
+      steps-are = rw (← ns-are)
 
       pattern-is : pattern_of (line_task l) ≡ drop 2 ns
       unfolding pattern_of line_task task_from
-      pattern-is = padded-take 7 0 (drop 2 ns) ((line_task l).steps + (line_task l).steps - 1) (length-drop 2 ns ∙ omega (arith, steps-are, count-right.odd, ns-many))
+      pattern-is = rw (← ns-are) (padded-take 7 0 (drop 2 ns) ((length ns - 1) / 2 + (length ns - 1) / 2 - 1) (length-drop 2 ns ∙ sym (right (length ns) k).odd))
 
-      -- ── refusal 3 by a unit above 255 ───────────────────────────────────────
+      -- the units are the numbers behind the first two
+      units : take (length ns - 2) (drop 2 ns) ≡ drop 2 ns
+      units = take_rest ns 2
 
-      pub refuse-units : (u : Units) → u ≡ units_of (units_in f.values f.count) → u.ok ≡ false → 3 ≡ line_refusal 0 l
-      refuse-units u h q =
-          refused-three (line_task l) (omega (arith, steps-are, count-right.some)) (omega (arith, steps-are, count-right.most))
-          (ap (all_between 1 255) pattern-is ∙ above (drop 2 ns) (ap (all_between 0 255) (sym units-are) ∙ units-ok u (units_in f.values f.count) h ∙ q))
-          ∙ by-task
+      -- refusal 3 by a unit above 255
+      pub refuse_units : None ≡ units_of (take (length ns - 2) (drop 2 ns)) → line_refusal 0 l ≡ 3
+      refuse_units h =
+          by-task
+          ∙ refused-three (line_task l) (rw steps-are (right (length ns) k).some) (rw steps-are (right (length ns) k).most)
+          (rw pattern-is (above (drop 2 ns) (units-none (drop 2 ns) (rw units at h))))
 
-      -- ── the task ────────────────────────────────────────────────────────────
+      module _ (p : List ℕ) (h : Some p ≡ units_of (take (length ns - 2) (drop 2 ns))) where
+        abbrev task : Task
+        task = record { period = get_or ns 0 0; deadline = get_or ns 1 0; steps = (length ns - 1) / 2; pattern = p }
 
-      value-at : (i : ℕ) → i < 3 → get_or f.values i 0 ≡ get_or ns i 0
-      unfolding padded
-      value-at i h = rw (held f (words l) e g).values (get_or-append ns (replicate (9 - length ns) 0) 0 i (omega (arith, ns-many, count-right.low)))
+        pub task_is : entry_of task ≡ line_task l
+        unfolding entry_of line_task task_from
+        task_is =
+            let q = units-some p (drop 2 ns) (rw units at h) in
+            let m : length p ≡ 7 = ap length q ∙ padded-seven (drop 2 ns) (omega (arith, length-drop 2 ns, (right (length ns) k).high)) in
+            rw (tabulated p m, q, ← ns-are)
 
-      pub task-is : (u : Units) → u ≡ units_of (units_in f.values f.count) → u.ok ≡ true
-          → entry_of (record { period = get_or f.values 0 0; deadline = get_or f.values 1 0; steps = (f.count - 1) / 2; pattern = u.pattern }) ≡ line_task l
-      unfolding entry_of line_task task_from
-      task-is u h q =
-          let p : u.pattern ≡ padded 7 0 (drop 2 ns) = units-bytes u (units_in f.values f.count) h q ∙ ap (padded 7 0) units-are in
-          let m : length u.pattern ≡ 7 = ap length p ∙ padded-seven (drop 2 ns) (omega (arith, length-drop 2 ns, ns-many, count-right.high)) in
-          rw (value-at 0 (omega arith), value-at 1 (omega arith), tabulated u.pattern m, p, sym ns-many)
+        pub refuse_task : line_refusal 0 l ≡ task_refusal (entry_of task)
+        refuse_task = by-task ∙ ap task_refusal (sym task_is)
 
-      pub task-refused : (t : Task) (r : ℕ) → entry_of t ≡ line_task l → r ≡ task_refusal (entry_of t) → r ≡ line_refusal 0 l
-      task-refused t r h q = q ∙ ap task_refusal h ∙ by-task
+pub ruleset line_laws = (refuse_words, refuse_count, refuse_units, task_is, refuse_task)

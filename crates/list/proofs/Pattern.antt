@@ -1,66 +1,55 @@
--- The units of a pattern in the code's terms: place i of a line's numbers is place i - 2 of its units.
-use mathlib.Core.Bool.{true, false}
-use mathlib.Core.List.{List, [], ◌∷◌}
-use mathlib.Core.Path.{◌≡◌, ◌∙◌}
-use Prim.Native.Nat.{ℕ, suc, ◌+◌, ◌-◌, ◌≤◌, ◌<◌}
+-- The units of a pattern as bytes.
+use mathlib.Core.Bool.{true, false, and-false}
+use mathlib.Core.List.{List, [], ◌∷◌, ◌++◌}
+use mathlib.Core.Path.{◌≡◌, refl, sym, ◌∙◌}
+use Prim.Native.Nat.{ℕ, zero, suc, ◌+◌, ◌-◌, ◌≤◌, ◌<◌}
+use native.Mathlib.Numerals.{add-one}
 use native.Mathlib.Omega.{arith}
+use Rattle.std.specs.Prelude.{Option, Some, None, Result, Ok, Err, OkIff}
+use Rattle.std.specs.Result.{result_ok}
 use borrow.Author.Tests.{le-leb, lt-leb}
 use lib.Dec.{leb-zero}
-use lib.ListN.{length, get_or, take, drop, set, length-drop, drop_of_length-le}
-use lib.Seq.{drop-cons, get_or-take, get_or-drop, length-take-le, take-suc}
+use lib.ListN.{length, get_or, take, set, replicate, length-append}
+use lib.Seq.{length-take-le, take-suc, take_all, set_at, append_snoc}
 use Rattle.rules.specs.Lists.{padded}
 use Rattle.rules.specs.Records.{between, all_between}
-use Rattle.list.specs.declared.line.Units.{Units}
 use Rattle.list.specs.Inner.{units_of}
-use Rattle.list.proofs.Numbers.{padded-more}
 
--- the units of n numbers
-abbrev pub units_in : List ℕ → ℕ → List ℕ
-units_in vs n = take (n - 2) (drop 2 vs)
+-- one entry more in a padded list
+pub padded-more : {A : Type 0} (n : ℕ) (z x : A) (xs : List A) (k : ℕ) → length xs ≡ k → k < n → set (padded n z xs) k x ≡ padded n z (xs ++ x ∷ [])
+unfolding padded
+padded-more n z x xs k e h =
+    let m : n - length xs ≡ suc (n - length (xs ++ x ∷ [])) = omega (arith, length-append xs (x ∷ [])) in
+    rw m (set_at xs z (replicate (n - length (xs ++ x ∷ [])) z) x k e ∙ sym (append_snoc xs x (replicate (n - length (xs ++ x ∷ [])) z)))
 
-pub units-many : (vs : List ℕ) (n : ℕ) → length vs ≡ 9 → n ≤ 9 → length (units_in vs n) ≡ n - 2
-units-many vs n e h = length-take-le (n - 2) (drop 2 vs) (omega (arith, length-drop 2 vs))
+all-bytes : (us : List ℕ) → ((k : ℕ) → k < length us → get_or us k 0 ≤ 255) → all_between 0 255 us ≡ true
+unfolding all_between between
+all-bytes [] h = refl
+all-bytes (x ∷ us) h = rw (leb-zero, le-leb x 255 (h 0 (omega arith)), all-bytes us (λ k m. h (suc k) (omega arith)))
 
-module _ (vs : List ℕ) (n i : ℕ) (e : length vs ≡ 9) (few : n ≤ 9) (low : 2 ≤ i) where
-  pub units-end : n ≤ i → all_between 0 255 (drop (i - 2) (units_in vs n)) ≡ true
-  unfolding all_between
-  units-end h = rw (drop_of_length-le (units_in vs n) {i = i - 2} (omega (arith, units-many vs n e few)))
+no-byte : (us : List ℕ) (i : ℕ) → i < length us → 255 < get_or us i 0 → all_between 0 255 us ≡ false
+unfolding all_between between
+no-byte [] i h g = absurd (omega arith)
+no-byte (x ∷ us) zero h g = rw (leb-zero, lt-leb x 255 g)
+no-byte (x ∷ us) (suc i) h g = rw (no-byte us i (omega arith) g, and-false)
 
-  module _ (h : i < n) where
-    unit-here : get_or (units_in vs n) (i - 2) 0 ≡ get_or vs i 0
-    unit-here =
-        let k : 2 + (i - 2) ≡ i = omega arith in
-        get_or-take (n - 2) (drop 2 vs) (i - 2) 0 (omega arith) ∙ get_or-drop 2 vs (i - 2) 0 ∙ rw k
+pub units_good : (us : List ℕ) (n : ℕ) (p : List ℕ) → length us ≤ n → ((k : ℕ) → k < n → get_or us k 0 ≤ 255) → p ≡ padded 7 0 (take n us) → Some p ≡ units_of us
+unfolding units_of
+units_good us n p h b e = rw (all-bytes us (λ k m. b k (omega arith)), e, take_all n us h)
 
-    next : i + 1 - 2 ≡ suc (i - 2)
-    next = omega arith
+pub units_bad : (us : List ℕ) (i : ℕ) → i < length us → 255 < get_or us i 0 → None ≡ units_of us
+unfolding units_of
+units_bad us i h g = rw (no-byte us i h g)
 
-    unit-inside : i - 2 < length (units_in vs n)
-    unit-inside = omega (arith, units-many vs n e few)
+pub unit_store : (us : List ℕ) (i : ℕ) (p : List ℕ) → i < length us → i < 7 → p ≡ padded 7 0 (take i us) → set p i (get_or us i 0) ≡ padded 7 0 (take (i + 1) us)
+unit_store us i p h m e = rw (e, add-one, take-suc us i 0 h) (padded-more 7 0 (get_or us i 0) (take i us) i (length-take-le i us (omega arith)) m)
 
-    units-so-far : length (take (i - 2) (units_in vs n)) ≡ i - 2
-    units-so-far = let m = unit-inside in length-take-le (i - 2) (units_in vs n) (omega arith)
+-- what `u8::try_from(x).ok()` gives
+module _ {E : Type 0} where
+  pub byte_is : (r : Result ℕ E) (x v : ℕ) → OkIff r (x < 256) x → ◌≡◌ {A = Option ℕ} (Some v) (result_ok r) → (x < 256) × (x ≡ v)
+  byte_is (Ok y) x v h e = let q : y ≡ x = h.1 in (h.0, cc)
+  byte_is (Err f) x v h e = absurd cc
 
-    unit-cons : drop (i - 2) (units_in vs n) ≡ get_or vs i 0 ∷ drop (i + 1 - 2) (units_in vs n)
-    unit-cons = drop-cons (units_in vs n) (i - 2) 0 unit-inside ∙ rw (unit-here, next)
-
-    pub units-on : get_or vs i 0 ≤ 255 → all_between 0 255 (drop (i - 2) (units_in vs n)) ≡ all_between 0 255 (drop (i + 1 - 2) (units_in vs n))
-    unfolding all_between between
-    units-on k = rw (unit-cons, leb-zero, le-leb (get_or vs i 0) 255 k)
-
-    pub units-off : 255 < get_or vs i 0 → all_between 0 255 (drop (i - 2) (units_in vs n)) ≡ false
-    unfolding all_between between
-    units-off k = rw (unit-cons, leb-zero, lt-leb (get_or vs i 0) 255 k)
-
-    pub unit_store : set (padded 7 0 (take (i - 2) (units_in vs n))) (i - 2) (get_or vs i 0) ≡ padded 7 0 (take (i + 1 - 2) (units_in vs n))
-    unit_store = rw (next, take-suc (units_in vs n) (i - 2) 0 unit-inside, unit-here) (padded-more 7 0 (get_or vs i 0) (take (i - 2) (units_in vs n)) (i - 2) units-so-far (omega arith))
-
--- what the loop returns
-module _ (us : List ℕ) where
-  pub units-good : (p : List ℕ) → all_between 0 255 us ≡ true → p ≡ padded 7 0 us → ◌≡◌ {A = Units} (record { ok = true; pattern = p }) (units_of us)
-  unfolding units_of
-  units-good p e f = rw (e, f)
-
-  pub units-bad : all_between 0 255 us ≡ false → ◌≡◌ {A = Units} (record { ok = false; pattern = 0 ∷ 0 ∷ 0 ∷ 0 ∷ 0 ∷ 0 ∷ 0 ∷ [] }) (units_of us)
-  unfolding units_of
-  units-bad e = rw e
+  pub byte_not : (r : Result ℕ E) (x : ℕ) → OkIff r (x < 256) x → ◌≡◌ {A = Option ℕ} None (result_ok r) → 255 < x
+  byte_not (Ok y) x h e = absurd cc
+  byte_not (Err f) x h e = omega (arith, h)

@@ -1,47 +1,82 @@
--- What a byte does to the fields of a line, in the code's terms: the first byte is get_or l 0 0 and the rest take (length l - 1) (drop 1 l).
-use mathlib.Core.Bool.{true, false}
-use mathlib.Core.List.{List, [], ◌∷◌, ◌++◌, append-nil, append_assoc}
+-- What a byte does to the fields of a line: the first byte is get_or l 0 0 and the rest take (length l - 1) (drop 1 l).
+use mathlib.Core.Bool.{Bool, true, false, ◌&&◌, and-false}
+use mathlib.Core.List.{List, [], ◌∷◌, ◌++◌, append-nil, append_assoc, map, map-append}
 use mathlib.Core.Path.{◌≡◌, refl, sym, ap, ◌∙◌}
-use Prim.Native.Nat.{ℕ, zero, suc, ◌+◌, ◌-◌, ◌*◌, ◌^◌, ◌≤◌, ◌<◌}
-use native.Mathlib.Nat.{lt_of_lt_of_le, pow-le-pow_right, pow-suc}
-use native.Mathlib.Numerals.{add-one}
+use Prim.Native.Nat.{ℕ, suc, ◌+◌, ◌-◌, ◌≤◌, ◌<◌}
 use native.Mathlib.Omega.{arith}
-use lib.Dec.{lit<}
-use lib.ListN.{length, get_or, take, drop, length-drop}
-use lib.Seq.{take_all, take-length, append_snoc}
-use Rattle.rules.proofs.Lists.{clash-bool}
-use Rattle.list.specs.declared.fields.Fields.{Fields}
+use Rattle.std.proofs.lemmas.Bool.Decides.{nat_tests}
+use Rattle.std.proofs.lemmas.List.{take_rest}
+use Rattle.std.specs.Prelude.{Option, Some, None, position}
+use borrow.Author.Tests.{leb-true, lt-leb}
+use lib.Dec.{leb}
+use lib.ListN.{length, get_or, take, drop, length-append, length-map}
+use lib.Seq.{take-length, append_snoc}
+use Rattle.rules.specs.Lists.{all_of}
+use Rattle.rules.proofs.Lists.{and_parts}
+use Rattle.list.specs.declared.numbers.Digits.{Digits}
 use Rattle.list.specs.Text.{parts_fields, words}
-use Rattle.list.specs.Reading.{is_digit}
-use Rattle.list.specs.Inner.{GapSize, no_fields, fields_of, one_more, Begun}
-use Rattle.list.proofs.Words.{front, behind, word_at, begun-word, begun-field, other_byte, too_long}
-use Rattle.list.proofs.Numbers.{one_more-read, word-bad, word-tenth}
+use Rattle.list.specs.Reading.{is_field, number}
+use Rattle.list.specs.Inner.{Begun, fields_of, one_more}
+use Rattle.list.proofs.Tests.{all_append}
+use Rattle.list.proofs.Words.{front, behind, word_at, begins_field, field_none, field_at, field_starts, digits_word, begun_digits, field_longer}
+
+-- ── some words ──────────────────────────────────────────────────────────────
+
+-- some words are fields, nine at most, with these numbers
+pub record Held (ns : List ℕ) (ws : List (List ℕ)) : Type 0 where
+  pub all : all_of is_field ws ≡ true
+  pub few : length ws ≤ 9
+  pub numbers : ns ≡ map number ws
+
+pub held : (ns : List ℕ) (ws : List (List ℕ)) → Some ns ≡ fields_of ws → Held ns ws
+unfolding fields_of
+held ns ws e = go (all_of is_field ws && leb (length ws) 9) refl
+  where
+    go : (t : Bool) → (all_of is_field ws && leb (length ws) 9) ≡ t → Held ns ws
+    go true g =
+        let k : ◌≡◌ {A = Option (List ℕ)} (Some ns) (Some (map number ws)) = e ∙ rw g in
+        let p = and_parts (all_of is_field ws) (leb (length ws) 9) g in
+        record { all = p.0; few = leb-true (length ws) 9 p.1; numbers = cc }
+    go false g = let k : ◌≡◌ {A = Option (List ℕ)} (Some ns) None = e ∙ rw g in absurd cc
+
+module _ (ns : List ℕ) (ws : List (List ℕ)) (e : Some ns ≡ fields_of ws) where
+  long : length ns ≡ length ws
+  long = ap length (held ns ws e).numbers ∙ length-map ws number
+
+  -- a field more
+  word-more : (w : List ℕ) → is_field w ≡ true → one_more ns (number w) ≡ fields_of (ws ++ w ∷ [])
+  unfolding fields_of all_of
+  word-more w g =
+      let u = held ns ws e in
+      rw (all_append is_field ws (w ∷ []), u.all, g, length-append ws (w ∷ []), map-append number ws (w ∷ []), ← u.numbers) (grind (arith, nat_tests, long))
+
+  -- a tenth word
+  word_tenth : (n : ℕ) (w : List ℕ) (vs : List (List ℕ)) → one_more ns n ≡ None → None ≡ fields_of (ws ++ w ∷ vs)
+  unfolding fields_of
+  word_tenth n w vs k =
+      let m : 9 ≤ length ns = grind (arith, nat_tests) in
+      rw (lt-leb (length (ws ++ w ∷ vs)) 9 (omega (arith, long, length-append ws (w ∷ vs))), and-false)
+
+-- a word that is no field
+word-bad : (ws vs : List (List ℕ)) (w : List ℕ) → is_field w ≡ false → None ≡ fields_of (ws ++ w ∷ vs)
+unfolding fields_of all_of
+word-bad ws vs w e = rw (all_append is_field ws (w ∷ vs), e, and-false)
+
+-- ── a byte ──────────────────────────────────────────────────────────────────
 
 -- what is left after the first byte
 abbrev pub rest : List ℕ → List ℕ
 rest l = take (length l - 1) (drop 1 l)
 
-pub whole : (l : List ℕ) → (length l ≡ 0 → ⊥) → l ≡ get_or l 0 0 ∷ rest l
-whole [] n = absurd (n refl)
+whole : (l : List ℕ) → 1 ≤ length l → l ≡ get_or l 0 0 ∷ rest l
+whole [] n = absurd (omega arith)
 whole (b ∷ l) n = let e : suc (length l) - 1 ≡ length l = omega arith in rw (e, take-length l)
 
-nothing : (l : List ℕ) → length l ≡ 0 → l ≡ []
+nothing : (l : List ℕ) → length l < 1 → l ≡ []
 nothing [] e = refl
 nothing (b ∷ l) e = absurd (omega arith)
 
--- the words of a line by its first byte
--- a gap at the start of a line has a byte at least, and what is behind it has the line's words
-pub some-gap : (l : List ℕ) (r : ℕ) → (length l ≡ 0 → ⊥) → parts_fields (get_or l 0 0) ≡ true → GapSize l r → 0 < r
-some-gap l (suc r) n h g = omega arith
-some-gap l zero n h g = clash-bool (sym (g.ends (omega arith)) ∙ h)
-
-pub gap-passed : (ws : List (List ℕ)) (l : List ℕ) (r : ℕ) → GapSize l r → fields_of (ws ++ words (take (length l - r) (drop r l))) ≡ fields_of (ws ++ words l)
-gap-passed ws l r g = ap (λ (v : List (List ℕ)). fields_of (ws ++ v)) (ap words (take_all (length l - r) (drop r l) (omega (arith, length-drop r l))) ∙ sym g.same)
-
-module _ (l : List ℕ) (n : length l ≡ 0 → ⊥) where
-  words-begun : parts_fields (get_or l 0 0) ≡ false → words l ≡ (get_or l 0 0 ∷ front (rest l)) ∷ behind (rest l)
-  words-begun h = ap words (whole l n) ∙ word_at (get_or l 0 0) (rest l) h
-
+module _ (l : List ℕ) (n : 1 ≤ length l) where
   front-parted : parts_fields (get_or l 0 0) ≡ true → front l ≡ []
   unfolding front
   front-parted h = ap front (whole l n) ∙ rw h
@@ -54,52 +89,44 @@ module _ (l : List ℕ) (n : length l ≡ 0 → ⊥) where
   unfolding behind
   behind-parted h = ap behind (whole l n) ∙ rw h
 
--- ── between fields ──────────────────────────────────────────────────────────
-
-module _ (f : Fields) (ws : List (List ℕ)) (e : f ≡ fields_of ws) (l : List ℕ) where
-  pub gap-end : length l ≡ 0 → f ≡ fields_of (ws ++ words l)
-  unfolding words
-  gap-end h = rw (nothing l h, append-nil) e
-
-  module _ (n : length l ≡ 0 → ⊥) where
-    pub gap_other : parts_fields (get_or l 0 0) ≡ false → is_digit (get_or l 0 0) ≡ false → no_fields ≡ fields_of (ws ++ words l)
-    gap_other h g = rw (words-begun l n h) (word-bad ws (behind (rest l)) (get_or l 0 0 ∷ front (rest l)) (other_byte [] (front (rest l)) (get_or l 0 0) g))
-
-    pub gap-tenth : parts_fields (get_or l 0 0) ≡ false → f.ok ≡ true → f.count ≡ 9 → no_fields ≡ fields_of (ws ++ words l)
-    gap-tenth h g k = rw (words-begun l n h) (word-tenth f ws (behind (rest l)) (get_or l 0 0 ∷ front (rest l)) e g k)
-
-    pub gap-digit : fields_of (ws ++ words ((get_or l 0 0 ∷ []) ++ rest l)) ≡ fields_of (ws ++ words l)
-    gap-digit = ap (λ (l : List ℕ). fields_of (ws ++ words l)) (sym (whole l n))
-
 -- ── in a field ──────────────────────────────────────────────────────────────
 
-module _ (f : Fields) (ws : List (List ℕ)) (p : List ℕ) (d v : ℕ) (e : f ≡ fields_of ws) (b : Begun p d v) (l : List ℕ) where
-  -- the field ends, as d digits at most four
-  pub field_put : f.ok ≡ true → f.count < 9 → d ≤ 4 → one_more f v ≡ fields_of (ws ++ p ∷ [])
-  field_put h k m = one_more-read f ws p v e h k (begun-field p d v b m) b.worth
+module _ (ns : List ℕ) (ws : List (List ℕ)) (p : List ℕ) (d : Digits) (e : Some ns ≡ fields_of ws) (b : Begun p d) (s : 0 < length p) (l : List ℕ) where
+  here : words (p ++ l) ≡ (p ++ front l) ∷ behind l
+  here = digits_word p l s (begun_digits p d 0 b)
 
-  pub field_end : f.ok ≡ true → f.count < 9 → d ≤ 4 → length l ≡ 0 → one_more f v ≡ fields_of (ws ++ words (p ++ l))
+  -- the field ends
+  pub field_put : one_more ns d.value ≡ fields_of (ws ++ p ∷ [])
+  field_put = rw (← b.worth) (word-more ns ws e p b.field)
+
+  pub field_end : length l < 1 → one_more ns d.value ≡ fields_of (ws ++ words (p ++ l))
   unfolding front behind
-  field_end h k m z = field_put h k m ∙ sym (rw (begun-word p l d v b, nothing l z, append-nil))
+  field_end z = rw (here, nothing l z, append-nil) field_put
 
-  module _ (n : length l ≡ 0 → ⊥) where
-    pub field-parted : parts_fields (get_or l 0 0) ≡ true → fields_of ((ws ++ p ∷ []) ++ words (rest l)) ≡ fields_of (ws ++ words (p ++ l))
-    field-parted h = rw (begun-word p l d v b, front-parted l n h, behind-parted l n h, append-nil, append_assoc)
+  pub field_full : one_more ns d.value ≡ None → None ≡ fields_of (ws ++ words (p ++ l))
+  field_full k = rw here (word_tenth ns ws e d.value (p ++ front l) (behind l) k)
 
-    pub field-other : parts_fields (get_or l 0 0) ≡ false → is_digit (get_or l 0 0) ≡ false → no_fields ≡ fields_of (ws ++ words (p ++ l))
-    field-other h g = rw (begun-word p l d v b, front-on l n h) (word-bad ws (behind l) (p ++ get_or l 0 0 ∷ front (rest l)) (other_byte p (front (rest l)) (get_or l 0 0) g))
+  pub field_parted : 1 ≤ length l → parts_fields (get_or l 0 0) ≡ true → fields_of ((ws ++ p ∷ []) ++ words (rest l)) ≡ fields_of (ws ++ words (p ++ l))
+  field_parted n h = rw (here, front-parted l n h, behind-parted l n h, append-nil, append_assoc)
 
-    pub field-long : parts_fields (get_or l 0 0) ≡ false → d ≡ 4 → no_fields ≡ fields_of (ws ++ words (p ++ l))
-    field-long h m = rw (begun-word p l d v b, front-on l n h) (word-bad ws (behind l) (p ++ get_or l 0 0 ∷ front (rest l)) (too_long p (front (rest l)) (get_or l 0 0) (b.many ∙ m)))
+  pub field_bad : 1 ≤ length l → parts_fields (get_or l 0 0) ≡ false → is_field (p ++ get_or l 0 0 ∷ []) ≡ false → None ≡ fields_of (ws ++ words (p ++ l))
+  field_bad n h g = rw (here, front-on l n h) (word-bad ws (behind l) (p ++ get_or l 0 0 ∷ front (rest l)) (field_longer p (front (rest l)) (get_or l 0 0) g))
 
-    pub field-digit : fields_of (ws ++ words ((p ++ get_or l 0 0 ∷ []) ++ rest l)) ≡ fields_of (ws ++ words (p ++ l))
-    field-digit = ap (λ (m : List ℕ). fields_of (ws ++ words m)) (append_snoc p (get_or l 0 0) (rest l) ∙ ap (λ (m : List ℕ). p ++ m) (sym (whole l n)))
+pub field_on : (ws : List (List ℕ)) (p l : List ℕ) → 1 ≤ length l → fields_of (ws ++ words ((p ++ get_or l 0 0 ∷ []) ++ rest l)) ≡ fields_of (ws ++ words (p ++ l))
+field_on ws p l n = ap (λ (m : List ℕ). fields_of (ws ++ words m)) (append_snoc p (get_or l 0 0) (rest l) ∙ ap (λ (m : List ℕ). p ++ m) (sym (whole l n)))
 
--- ── the number fits ─────────────────────────────────────────────────────────
+-- ── between fields ──────────────────────────────────────────────────────────
 
--- a value of fewer than four digits is below a thousand, and one digit more brings it below the next power
-pub small : (v d : ℕ) → v < 10 ^ d → d ≤ 4 → (d ≡ 4 → ⊥) → v < 1000
-small v d h k n = lt_of_lt_of_le h (pow-le-pow_right {n = 10} (lit< tt) {i = d} {j = 3} (omega arith))
+pub gap_end : (ws : List (List ℕ)) (l : List ℕ) → position begins_field l ≡ None → fields_of ws ≡ fields_of (ws ++ words l)
+gap_end ws l e = rw (field_none l e, append-nil)
 
-pub grows : (v d b : ℕ) → v < 10 ^ d → b ≤ 9 → v * 10 + b < 10 ^ (d + 1)
-grows v d b h k = rw (add-one, pow-suc) (omega arith)
+module _ (ws : List (List ℕ)) (l : List ℕ) (i : ℕ) (e : position begins_field l ≡ Some i) where
+  pub gap_bad : is_field (get_or l i 0 ∷ []) ≡ false → None ≡ fields_of (ws ++ words l)
+  gap_bad h = rw (field_at l i e, word_at (get_or l i 0) (drop (i + 1) l) (field_starts l i e))
+      (word-bad ws (behind (drop (i + 1) l)) (get_or l i 0 ∷ front (drop (i + 1) l)) (field_longer [] (front (drop (i + 1) l)) (get_or l i 0) h))
+
+  pub gap_on : fields_of (ws ++ words (get_or l i 0 ∷ take (length l - (i + 1)) (drop (i + 1) l))) ≡ fields_of (ws ++ words l)
+  gap_on = rw (field_at l i e, take_rest l (i + 1))
+
+-- what a field and a gap give at their ends
+pub ruleset end_laws = (field_end, field_full, gap_end, gap_bad)

@@ -1,30 +1,48 @@
 -- The set under construction, after the tasks rs: its record is what the reader accepts after rs.
 use mathlib.Core.Bool.{Bool, true, false}
-use mathlib.Core.List.{List, [], ◌∷◌, ◌++◌, map}
+use mathlib.Core.List.{List, [], ◌∷◌, ◌++◌}
+use mathlib.Core.Logic.{◌⊎◌, inl, inr}
 use mathlib.Core.Path.{◌≡◌, refl, sym, ap, ◌∙◌}
 use Prim.Native.Nat.{ℕ, ◌+◌, ◌≤◌, ◌<◌}
 use native.Mathlib.Omega.{arith}
+use Rattle.std.specs.Prelude.{Ok, is_none}
+use Rattle.std.specs.Array.{AllOfLen}
 use borrow.Author.Tests.{eqb-true, eqb-false, eq-eqb, ne_eqb, lt-ltb, le-ltb, le-leb, lt-leb}
 use lib.Dec.{ltb, eqb}
-use lib.ListN.{length, get_or, set, length-append, length-set, length-map}
+use lib.ListN.{length, get_or, set, length-append, length-set}
 use lib.Seq.{ext_get_or, get_or-set_same, get_or-set_other}
-use Rattle.rules.specs.Lists.{is_zero, padded}
+use Rattle.rules.specs.Lists.{is_zero, padded, tabulate}
 use Rattle.rules.specs.Hyper.{hyper}
 use Rattle.rules.specs.Records.{TaskRecord, SetRecord, tasks_in, used, set_in}
-use Rattle.rules.specs.States.{blank_task}
+use Rattle.rules.specs.States.{blank_task, blank_set}
+use Rattle.rules.proofs.Laws.{le-or-lt}
 use Rattle.rules.proofs.Set.Tidy.{padded-take}
 use Rattle.tasks.specs.declared.Task.{Task}
 use Rattle.tasks.specs.declared.TaskSet.{TaskSet}
-use Rattle.tasks.specs.Views.{no_entry, entry_of, record_of, set_of, bounded}
-use Rattle.tasks.proofs.Multiple.{bounded-over}
+use Rattle.tasks.specs.Views.{no_entry, entry_of, record_of, set_of, within}
+use Rattle.tasks.proofs.Multiple.{within-few, within-many}
 use Rattle.tasks.proofs.Views.{entries-length, entry_at}
-use Rattle.list.specs.Reading.{skipped, line_task, line_refusal, refused_whole, refused_line, accepted, finish, reply_of}
+use Rattle.list.specs.Reading.{skipped, line_task, line_refusal, refused_whole, accepted, finish, reply_of}
 use Rattle.list.specs.Inner.{refusal_after, tasks_after}
-use Rattle.list.proofs.Numbers.{padded-more}
+use Rattle.list.proofs.Pattern.{padded-more}
 
--- the length of an array of structs in a struct
-pub unmapped : (X Y : Type 0) (f : X → Y) (l : List X) (n : ℕ) → length (map f l) ≡ n → length l ≡ n
-unmapped X Y f l n e = sym (length-map l f) ∙ e
+-- ── no task ─────────────────────────────────────────────────────────────────
+
+-- what `Task::default()` gives
+abbrev Blank : Task → Type 0
+Blank t = (t.period ≡ 0) × ((t.deadline ≡ 0) × ((t.steps ≡ 0) × AllOfLen (λ b. b ≡ 0) t.pattern 7))
+
+entry-blank : (t : Task) → Blank t → entry_of t ≡ blank_task
+unfolding entry_of blank_task tabulate
+entry-blank t h =
+    let p = h.1.1.1.at in
+    rw (h.0, h.1.0, h.1.1.0, p 0 0 (omega arith), p 1 0 (omega arith), p 2 0 (omega arith), p 3 0 (omega arith), p 4 0 (omega arith), p 5 0 (omega arith), p 6 0 (omega arith))
+
+pub record_blank : (s : TaskSet) → (s.count ≡ 0) × AllOfLen Blank s.tasks 8 → record_of s ≡ blank_set
+unfolding record_of blank_set tabulate
+record_blank s h =
+    let e = λ (i : ℕ) (k : i < 8). entry-blank (get_or s.tasks i no_entry) (h.1.at i no_entry k) in
+    rw (h.0, e 0 (omega arith), e 1 (omega arith), e 2 (omega arith), e 3 (omega arith), e 4 (omega arith), e 5 (omega arith), e 6 (omega arith), e 7 (omega arith))
 
 -- ── a task stored ───────────────────────────────────────────────────────────
 
@@ -53,12 +71,19 @@ stored-entries s t m h =
         entry_at (stored s t) i blank_task k ∙ ap entry_of (get_or-set_other s.tasks s.count i t no_entry (eqb-false i s.count q))
         ∙ sym (get_or-set_other (record_of s).entries s.count i (entry_of t) blank_task (eqb-false i s.count q) ∙ entry_at s i blank_task k)
 
+over : (h : ℕ) → ltb 4096 h ≡ is_none (within h)
+over h = go (le-or-lt h 4096)
+  where
+    go : (h ≤ 4096) ⊎ (4096 < h) → ltb 4096 h ≡ is_none (within h)
+    go (inl k) = rw (le-ltb 4096 h k, within-few h k)
+    go (inr k) = rw (lt-ltb 4096 h k, within-many h k)
+
 -- ── after rs ────────────────────────────────────────────────────────────────
 
 module _ (s : TaskSet) (rs : List TaskRecord) (e : record_of s ≡ (accepted rs).set) where
-  pub set-count : s.count ≡ length rs
+  pub set_count : s.count ≡ length rs
   unfolding record_of accepted
-  set-count = ap (λ (r : SetRecord). r.count) e
+  set_count = ap (λ (r : SetRecord). r.count) e
 
   count_of : (record_of s).count ≡ s.count
   unfolding record_of
@@ -71,55 +96,60 @@ module _ (s : TaskSet) (rs : List TaskRecord) (e : record_of s ≡ (accepted rs)
   -- the tasks in use are those read
   set-tasks : set_of s ≡ tasks_in rs
   unfolding set_of set_in used
-  set-tasks = ap tasks_in (rw set-entries (padded-take 8 blank_task rs (record_of s).count (sym (count_of ∙ set-count))))
+  set-tasks = ap tasks_in (rw set-entries (padded-take 8 blank_task rs (record_of s).count (sym (count_of ∙ set_count))))
 
   -- ── one task more ─────────────────────────────────────────────────────────
 
-  pub set_more : (t : Task) → length s.tasks ≡ 8 → s.count < 8 → record_of (stored s t) ≡ (accepted (rs ++ entry_of t ∷ [])).set
+  pub set_more : (t : Task) (i : ℕ) → i ≡ s.count → length s.tasks ≡ 8 → s.count < 8
+      → record_of (record { count = s.count + 1; tasks = set s.tasks i t }) ≡ (accepted (rs ++ entry_of t ∷ [])).set
   unfolding accepted
-  set_more t m h =
-      let l : length (rs ++ entry_of t ∷ []) ≡ s.count + 1 = length-append rs (entry_of t ∷ []) ∙ omega (arith, set-count) in
-      same-record (record_of (stored s t)) (length (rs ++ entry_of t ∷ [])) (padded 8 blank_task (rs ++ entry_of t ∷ [])) (count-stored s t ∙ sym l)
-      (stored-entries s t m h ∙ rw set-entries (padded-more 8 blank_task (entry_of t) rs s.count (sym set-count) h))
+  set_more t i k m h =
+      let l : length (rs ++ entry_of t ∷ []) ≡ s.count + 1 = length-append rs (entry_of t ∷ []) ∙ omega (arith, set_count) in
+      rw k (same-record (record_of (stored s t)) (length (rs ++ entry_of t ∷ [])) (padded 8 blank_task (rs ++ entry_of t ∷ [])) (count-stored s t ∙ sym l)
+      (stored-entries s t m h ∙ rw set-entries (padded-more 8 blank_task (entry_of t) rs s.count (sym set_count) h)))
 
   -- ── the end ───────────────────────────────────────────────────────────────
 
-  pub end_none : s.count ≡ 0 → refused_line 5 0 0 0 ≡ finish rs
-  unfolding finish is_zero refused_whole refused_line
-  end_none h = rw (eq-eqb (length rs) 0 (sym set-count ∙ h))
+  pub end_none : s.count ≡ 0 → finish rs ≡ refused_whole 5
+  unfolding finish is_zero
+  end_none h = rw (eq-eqb (length rs) 0 (sym set_count ∙ h))
 
-  module _ (n : s.count ≡ 0 → ⊥) (h : ℕ) (q : h ≡ bounded (hyper (set_of s))) where
-    over : ltb 4096 (hyper (tasks_in rs)) ≡ ltb 4096 h
-    over = sym (ap (ltb 4096) q ∙ bounded-over (hyper (set_of s)) ∙ ap (λ τs. ltb 4096 (hyper τs)) set-tasks)
+  module _ (n : s.count ≡ 0 → ⊥) where
+    tested : ltb 4096 (hyper (tasks_in rs)) ≡ is_none (within (hyper (set_of s)))
+    tested = rw (← set-tasks) (over (hyper (set_of s)))
 
-    pub end-over : 4096 < h → refused_line 6 0 0 0 ≡ finish rs
-    unfolding finish is_zero refused_whole refused_line
-    end-over k = rw (ne_eqb (length rs) 0 (λ z. n (set-count ∙ z)), over, lt-ltb 4096 h k)
+    pub end_over : is_none (within (hyper (set_of s))) ≡ true → finish rs ≡ refused_whole 6
+    unfolding finish is_zero
+    end_over h = rw (ne_eqb (length rs) 0 (λ z. n (set_count ∙ z)), tested, h)
 
-    pub end-good : h ≤ 4096 → reply_of (record { refusal = 0; line = 0; start = 0; size = 0; set = s }) ≡ finish rs
+    pub end_good : is_none (within (hyper (set_of s))) ≡ false → finish rs ≡ reply_of (Ok s)
     unfolding finish is_zero reply_of accepted
-    end-good k = rw (ne_eqb (length rs) 0 (λ z. n (set-count ∙ z)), over, le-ltb 4096 h k) (ap (λ (r : SetRecord). record { refusal = 0; line = 0; start = 0; size = 0; set = r }) e)
+    end_good h = rw (ne_eqb (length rs) 0 (λ z. n (set_count ∙ z)), tested, h, e)
 
 -- ── a line after rs ─────────────────────────────────────────────────────────
 
 module _ (rs : List TaskRecord) (l : List ℕ) where
-  pub line-skipped : skipped l ≡ true → 0 ≡ refusal_after rs l
+  pub line_skipped : skipped l ≡ true → refusal_after rs l ≡ 0
   unfolding refusal_after
-  line-skipped h = rw h
+  line_skipped h = rw h
 
-  pub tasks-kept : skipped l ≡ true → tasks_after rs l ≡ rs
+  pub tasks_kept : skipped l ≡ true → tasks_after rs l ≡ rs
   unfolding tasks_after
-  tasks-kept h = rw h
+  tasks_kept h = rw h
 
   module _ (h : skipped l ≡ false) where
-    pub line-ninth : 8 ≤ length rs → 5 ≡ refusal_after rs l
+    pub line_ninth : 8 ≤ length rs → refusal_after rs l ≡ 5
     unfolding refusal_after line_refusal
-    line-ninth k = rw (h, le-leb 8 (length rs) k)
+    line_ninth k = rw (h, le-leb 8 (length rs) k)
 
-    pub line-judged : length rs < 8 → line_refusal 0 l ≡ refusal_after rs l
+    pub line_judged : length rs < 8 → refusal_after rs l ≡ line_refusal 0 l
     unfolding refusal_after line_refusal
-    line-judged k = rw (h, lt-leb 8 (length rs) k)
+    line_judged k = rw (h, lt-leb 8 (length rs) k)
 
-    pub tasks-more : tasks_after rs l ≡ rs ++ line_task l ∷ []
+    pub tasks_more : tasks_after rs l ≡ rs ++ line_task l ∷ []
     unfolding tasks_after
-    tasks-more = rw h
+    tasks_more = rw h
+
+pub ruleset end_laws = (end_none, end_over, end_good)
+
+pub ruleset set_laws = (set_count, line_skipped, tasks_kept, line_ninth, line_judged, tasks_more)

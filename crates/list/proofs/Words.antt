@@ -1,22 +1,26 @@
 -- The words of a line in the code's terms: what a byte between fields does, and the word that some digits begin.
-use mathlib.Core.Bool.{Bool, true, false, cond, and-false}
+use mathlib.Core.Bool.{Bool, true, false, not, cond, ◌&&◌, ◌||◌, and-true, and-false}
 use mathlib.Core.List.{List, [], ◌∷◌, ◌++◌}
 use mathlib.Core.Path.{◌≡◌, refl, sym, ap, ◌∙◌}
-use mathlib.Core.Logic.{◌⊎◌, inl, inr}
+use mathlib.Core.Logic.{◌⊎◌}
 use Prim.Native.Nat.{ℕ, suc, ◌+◌, ◌-◌, ◌*◌, ◌≤◌, ◌<◌}
 use native.Mathlib.Numerals.{add-one}
 use native.Mathlib.Omega.{arith}
-use borrow.Author.Tests.{eq-eqb, ne_eqb, leb-true, le-leb, lt-leb}
-use lib.Dec.{leb, eqb}
+use borrow.Author.Tests.{not-true, ne_eqb, leb-true, leb-false, le-leb, lt-leb}
+use lib.Dec.{leb}
 use lib.ListN.{length, get_or, drop, drop_of_length-le, length-append}
 use lib.Seq.{drop-cons}
 use Rattle.rules.specs.Lists.{all_of, is_zero}
-use Rattle.rules.proofs.Laws.{le-or-lt}
+use Rattle.std.specs.Prelude.{Option, Some, None, position, is_none}
+use Rattle.std.specs.List.{position_or_len}
+use Rattle.std.proofs.lemmas.List.Quantifiers.{position-Some}
 use Rattle.rules.proofs.Lists.{and_parts}
-use Rattle.list.proofs.Tests.{all_append}
+use Rattle.list.proofs.Tests.{all_append, position-at, position-none}
+use Rattle.list.specs.declared.numbers.Digits.{Digits}
+use Rattle.list.specs.Inner.{Begun}
+use Rattle.std.proofs.lemmas.Bool.Decides.{nat_tests}
 use Rattle.list.specs.Text.{parts_fields, at_gap, onto, words}
 use Rattle.list.specs.Reading.{is_digit, is_field, number_from, number, is_comment, skipped}
-use Rattle.list.specs.Inner.{GapSize, Begun}
 
 -- ── a word and what is behind it ────────────────────────────────────────────
 
@@ -41,35 +45,42 @@ word_at b (a ∷ bs) e = rw e (go (parts_fields a) refl (λ h. word_at a bs h))
     go true h f = rw h
     go false h f = rw (f h) (rw h)
 
--- ── from a place on ─────────────────────────────────────────────────────────
+-- ── gaps ────────────────────────────────────────────────────────────────────
 
-module _ (s : List ℕ) (i : ℕ) where
-  pub words-on : i < length s → parts_fields (get_or s i 0) ≡ true → words (drop i s) ≡ words (drop (i + 1) s)
-  unfolding words
-  words-on h e = rw (add-one, drop-cons s i 0, e)
+-- a byte with which a field may begin
+abbrev pub begins_field : ℕ → Bool
+begins_field b = not (parts_fields b)
 
-  pub words-off : i < length s → parts_fields (get_or s i 0) ≡ false → is_zero (length (words (drop i s))) ≡ false
-  unfolding is_zero
-  words-off h e = rw (drop-cons s i 0, word_at (get_or s i 0) (drop (suc i) s) e) (ne_eqb (suc (length (behind (drop (suc i) s)))) 0 (omega arith))
+gap_over : (s : List ℕ) → words s ≡ words (drop (position_or_len begins_field s) s)
+unfolding words
+gap_over [] = refl
+gap_over (b ∷ bs) = go (parts_fields b) refl (gap_over bs)
+  where
+    go : (t : Bool) → parts_fields b ≡ t → words bs ≡ words (drop (position_or_len begins_field bs) bs)
+        → words (b ∷ bs) ≡ words (drop (position_or_len begins_field (b ∷ bs)) (b ∷ bs))
+    go true e h = let k : 1 + position_or_len begins_field bs ≡ suc (position_or_len begins_field bs) = omega arith in rw (e, k) h
+    go false e h = rw (e, e)
 
-  pub words-end : length s ≤ i → is_zero (length (words (drop i s))) ≡ true
-  unfolding words is_zero
-  words-end h = rw (drop_of_length-le s h)
+-- no field starts
+pub field_none : (s : List ℕ) → position begins_field s ≡ None → words s ≡ []
+unfolding words
+field_none s e = gap_over s ∙ rw (drop_of_length-le s {i = position_or_len begins_field s} (position-none begins_field s e))
+
+-- a field starts at a place, and no word before it
+pub field_at : (s : List ℕ) (i : ℕ) → position begins_field s ≡ Some i → words s ≡ words (get_or s i 0 ∷ drop (i + 1) s)
+field_at s i e =
+    let p = position-at begins_field s i e in
+    gap_over s ∙ rw (← p.0, drop-cons s i 0 p.1, add-one)
+
+pub field_starts : (s : List ℕ) (i : ℕ) → position begins_field s ≡ Some i → parts_fields (get_or s i 0) ≡ false
+field_starts s i e = not-true _ (position-Some begins_field s i 0 e).1
 
 -- ── digits ──────────────────────────────────────────────────────────────────
 
-pub digit_low : (b : ℕ) → is_digit b ≡ true → 48 ≤ b
-unfolding is_digit
-digit_low b e = leb-true 48 b (and_parts (leb 48 b) (leb b 57) e).0
-
-pub digit-high : (b : ℕ) → is_digit b ≡ true → b ≤ 57
-unfolding is_digit
-digit-high b e = leb-true b 57 (and_parts (leb 48 b) (leb b 57) e).1
-
 -- a digit parts no fields
-pub digit-inside : (b : ℕ) → is_digit b ≡ true → parts_fields b ≡ false
-unfolding parts_fields
-digit-inside b e = let h = digit_low b e in ne_eqb b 32 (omega arith)
+digit-inside : (b : ℕ) → is_digit b ≡ true → parts_fields b ≡ false
+unfolding is_digit parts_fields
+digit-inside b e = let h = leb-true 48 b (and_parts (leb 48 b) (leb b 57) e).0 in ne_eqb b 32 (omega arith)
 
 -- digits before a text join its first word
 front-digits : (p bs : List ℕ) → all_of is_digit p ≡ true → front (p ++ bs) ≡ p ++ front bs
@@ -84,13 +95,13 @@ behind-digits [] bs e = refl
 behind-digits (b ∷ p) bs e =
     rw (digit-inside b (and_parts (is_digit b) (all_of is_digit p) e).0) (behind-digits p bs (and_parts (is_digit b) (all_of is_digit p) e).1)
 
--- the word that a beginning of a field begins
-pub begun-word : (p bs : List ℕ) (d v : ℕ) → Begun p d v → words (p ++ bs) ≡ (p ++ front bs) ∷ behind bs
+-- the word that some digits begin
+pub digits_word : (p bs : List ℕ) → 0 < length p → all_of is_digit p ≡ true → words (p ++ bs) ≡ (p ++ front bs) ∷ behind bs
 unfolding all_of
-begun-word [] bs d v e = absurd (omega (arith, e.some, e.many))
-begun-word (b ∷ p) bs d v e =
-    let h : is_digit b ≡ true = (and_parts (is_digit b) (all_of is_digit p) e.all).0 in
-    let k : all_of is_digit p ≡ true = (and_parts (is_digit b) (all_of is_digit p) e.all).1 in
+digits_word [] bs n e = absurd (omega arith)
+digits_word (b ∷ p) bs n e =
+    let h : is_digit b ≡ true = (and_parts (is_digit b) (all_of is_digit p) e).0 in
+    let k : all_of is_digit p ≡ true = (and_parts (is_digit b) (all_of is_digit p) e).1 in
     word_at b (p ++ bs) (digit-inside b h) ∙ rw (front-digits p bs k, behind-digits p bs k)
 
 number_more : (v : ℕ) (p : List ℕ) (b : ℕ) → number_from v (p ++ b ∷ []) ≡ number_from v p * 10 + (b - 48)
@@ -98,46 +109,52 @@ unfolding number_from
 number_more v [] b = refl
 number_more v (a ∷ p) b = number_more (v * 10 + (a - 48)) p b
 
--- a digit more
-pub begun_more : (p : List ℕ) (d v b : ℕ) → Begun p d v → is_digit b ≡ true → Begun (p ++ b ∷ []) (d + 1) (v * 10 + (b - 48))
-unfolding number all_of
-begun_more p d v b e h = record {
-  some = omega arith;
-  all = all_append is_digit p (b ∷ []) ∙ rw (e.all, h);
-  many = length-append p (b ∷ []) ∙ omega (arith, e.many);
-  worth = number_more 0 p b ∙ ap (λ (n : ℕ). n * 10 + (b - 48)) e.worth;
-}
+-- ── a field's beginning ─────────────────────────────────────────────────────
 
--- the first digit
-pub begun-one : (b : ℕ) → is_digit b ≡ true → Begun (b ∷ []) 1 (0 * 10 + (b - 48))
-unfolding number number_from all_of
-begun-one b h = record { some = omega arith; all = rw h; many = refl; worth = refl }
+pub begun_none : (d : Digits) → d.count ≡ 0 → d.value ≡ 0 → Begun [] d
+unfolding is_field all_of number number_from
+begun_none d c v = record { field = refl; many = sym c; worth = sym v }
 
--- a whole field of up to four digits
-pub begun-field : (p : List ℕ) (d v : ℕ) → Begun p d v → d ≤ 4 → is_field p ≡ true
-unfolding is_field
-begun-field p d v e h = rw e.all (le-leb (length p) 4 (omega (arith, e.many)))
-
--- a word in which another byte stands, and one of five digits or more
-pub other_byte : (p bs : List ℕ) (b : ℕ) → is_digit b ≡ false → is_field (p ++ b ∷ bs) ≡ false
+field-more : (p : List ℕ) (b : ℕ) → is_field (p ++ b ∷ []) ≡ ((all_of is_digit p && is_digit b) && leb (length p + 1) 4)
 unfolding is_field all_of
-other_byte p bs b e = rw (all_append is_digit p (b ∷ bs), e, and-false)
+field-more p b = rw (all_append is_digit p (b ∷ []), length-append p (b ∷ []), and-true)
 
-pub too_long : (p bs : List ℕ) (b : ℕ) → length p ≡ 4 → is_field (p ++ b ∷ bs) ≡ false
-unfolding is_field
-too_long p bs b e = rw (lt-leb (length (p ++ b ∷ bs)) 4 (omega (arith, length-append p (b ∷ bs))), and-false)
+module _ (p : List ℕ) (d : Digits) (b : ℕ) (h : Begun p d) where
+  pub begun_digits : all_of is_digit p ≡ true
+  unfolding is_field
+  begun_digits = (and_parts (all_of is_digit p) (leb (length p) 4) h.field).0
+
+  pub digit_other : (b < 48) ⊎ (57 < b) → is_field (p ++ b ∷ []) ≡ false
+  unfolding is_digit
+  digit_other k = field-more p b ∙ grind (arith, nat_tests)
+
+  pub digit_fifth : d.count ≡ 4 → is_field (p ++ b ∷ []) ≡ false
+  digit_fifth k = field-more p b ∙ rw (lt-leb (length p + 1) 4 (omega (arith, h.many)), and-false)
+
+  pub digit_more : (e : Digits) → 48 ≤ b → b ≤ 57 → d.count < 4 → e.count ≡ d.count + 1 → e.value ≡ d.value * 10 + (b - 48) → Begun (p ++ b ∷ []) e
+  unfolding is_digit number
+  digit_more e low high few n v = record {
+    field = field-more p b ∙ rw (begun_digits, le-leb 48 b low, le-leb b 57 high) (le-leb (length p + 1) 4 (omega (arith, h.many)));
+    many = length-append p (b ∷ []) ∙ omega (arith, h.many);
+    worth = number_more 0 p b ∙ rw h.worth (sym v);
+  }
+
+-- a word goes on as it begins
+pub field_longer : (p bs : List ℕ) (b : ℕ) → is_field (p ++ b ∷ []) ≡ false → is_field (p ++ b ∷ bs) ≡ false
+unfolding is_field all_of
+field_longer p bs b e = rw (all_append is_digit p (b ∷ bs), length-append p (b ∷ bs)) (go (all_of is_digit p) (is_digit b) (rw (field-more p b) at e))
+  where
+    go : (t u : Bool) → ((t && u) && leb (length p + 1) 4) ≡ false → ((t && (u && all_of is_digit bs)) && leb (length p + suc (length bs)) 4) ≡ false
+    go false u h = refl
+    go true false h = refl
+    go true true h = let k = leb-false (length p + 1) 4 h in rw (lt-leb (length p + suc (length bs)) 4 (omega arith), and-false)
 
 -- ── skipped lines ───────────────────────────────────────────────────────────
 
-pub commented : (l : List ℕ) → is_comment l ≡ true → true ≡ skipped l
-unfolding skipped
-commented l e = rw e
-
--- a line that is no comment is skipped if its gap goes to its end
-pub by-gap : (l : List ℕ) (r : ℕ) → is_comment l ≡ false → GapSize l r → eqb r (length l) ≡ skipped l
-unfolding skipped
-by-gap l r n g = rw (n, g.same) (go (le-or-lt (length l) r))
+pub skipped_tells : (l : List ℕ) → skipped l ≡ (is_comment l || is_none (position begins_field l))
+unfolding skipped is_zero
+skipped_tells l = ap (λ (t : Bool). is_comment l || t) (go (position begins_field l) refl)
   where
-    go : (length l ≤ r) ⊎ (r < length l) → eqb r (length l) ≡ is_zero (length (words (drop r l)))
-    go (inl h) = let w = g.within in eq-eqb r (length l) (omega arith) ∙ sym (words-end l r h)
-    go (inr h) = ne_eqb r (length l) (λ e. omega arith) ∙ sym (words-off l r h (g.ends h))
+    go : (o : Option ℕ) → position begins_field l ≡ o → is_zero (length (words l)) ≡ is_none (position begins_field l)
+    go None e = rw (e, field_none l e)
+    go (Some i) e = rw (e, field_at l i e, word_at (get_or l i 0) (drop (i + 1) l) (field_starts l i e)) (ne_eqb (suc (length (behind (drop (i + 1) l)))) 0 (omega arith))

@@ -1,45 +1,52 @@
 -- What the reader's own functions give, for their contracts: the fields of words, the units of a pattern, and the tasks after a line.
-use Rattle.std.specs.Prelude.{true, false, cond, ◌&&◌, List, [], ◌∷◌, ◌++◌, map, ◌≡◌, ℕ, ◌+◌, ◌≤◌, ◌<◌, leb, length, get_or, drop, replicate, set}
+use Rattle.std.specs.Prelude.{true, cond, ◌&&◌, List, [], ◌∷◌, ◌++◌, map, ◌≡◌, ◌<◌, ℕ, ◌+◌, leb, nat_lt, length, take, drop, Option, Some, None, if◌then◌else◌}
 use Rattle.rules.specs.Lists.{all_of, padded}
 use Rattle.rules.specs.Records.{TaskRecord, all_between}
-use Rattle.list.specs.Text.{parts_fields, words}
-use Rattle.list.specs.Reading.{is_digit, is_field, number, skipped, line_task, line_refusal}
-use Rattle.list.specs.declared.fields.Fields.{Fields}
-use Rattle.list.specs.declared.line.Units.{Units}
+use Rattle.tasks.specs.declared.refusal.Refusal.{Refusal}
+use Rattle.list.specs.declared.Refused.{Refused}
+use Rattle.list.specs.Text.{lines}
+use Rattle.list.specs.Reading.{is_field, number, skipped, line_task, line_refusal}
+use Rattle.list.specs.declared.numbers.Digits.{Digits}
+use Rattle.list.specs.declared.numbers.Numbers.{Numbers}
 
--- ── gaps ────────────────────────────────────────────────────────────────────
+-- ── lines ───────────────────────────────────────────────────────────────────
 
--- r bytes that part fields stand at the start of a line, and no more
-pub record GapSize (line : List ℕ) (r : ℕ) : Type 0 where
-  pub within : r ≤ length line
-  pub same : words line ≡ words (drop r line)
-  pub ends : r < length line → parts_fields (get_or line r 0) ≡ false
+-- l is the first line of a text without its line feed, and ms is what is behind that
+pub record IsFirstLine (text l ms : List ℕ) : Type 0 where
+  pub parts : 0 < length text → lines text ≡ l ∷ lines ms
+  pub line : l ≡ take (length l) text
+  pub behind : ms ≡ drop (length l + 1) text
 
 -- ── fields ──────────────────────────────────────────────────────────────────
 
-unfoldable pub no_fields : Fields
-no_fields = record { ok = false; count = 0; values = replicate 9 0 }
+-- p are the digits of a field's beginning
+pub record Begun (p : List ℕ) (d : Digits) : Type 0 where
+  pub field : is_field p ≡ true
+  pub many : length p ≡ d.count
+  pub worth : number p ≡ d.value
 
--- the numbers of some words, zeros behind them, if each is a field and there are nine at most
-unfoldable pub fields_of : List (List ℕ) → Fields
-fields_of ws = cond (all_of is_field ws && leb (length ws) 9) (record { ok = true; count = length ws; values = padded 9 0 (map number ws) }) no_fields
+-- the numbers of a line's fields
+abbrev pub numbers_of : Numbers → List ℕ
+numbers_of f = take f.count f.values
 
--- the fields with one number more
-unfoldable pub one_more : Fields → ℕ → Fields
-one_more f v = record { ok = f.ok; count = f.count + 1; values = set f.values f.count v }
+-- the numbers, if there are fields
+abbrev pub numbers_in : Option Numbers → Option (List ℕ)
+numbers_in None = None
+numbers_in (Some f) = Some (numbers_of f)
 
--- p is a field's beginning: some digits, how many, and their number
-pub record Begun (p : List ℕ) (digits value : ℕ) : Type 0 where
-  pub some : 0 < digits
-  pub all : all_of is_digit p ≡ true
-  pub many : length p ≡ digits
-  pub worth : number p ≡ value
+-- the numbers of some words, if each is a field and there are nine at most
+unfoldable pub fields_of : List (List ℕ) → Option (List ℕ)
+fields_of ws = cond (all_of is_field ws && leb (length ws) 9) (Some (map number ws)) None
+
+-- the numbers with one more, if there is room
+abbrev pub one_more : List ℕ → ℕ → Option (List ℕ)
+one_more ns n = if nat_lt (length ns) 9 then Some (ns ++ n ∷ []) else None
 
 -- ── a pattern ───────────────────────────────────────────────────────────────
 
 -- the units as bytes, zeros behind them, if none is above 255
-unfoldable pub units_of : List ℕ → Units
-units_of us = cond (all_between 0 255 us) (record { ok = true; pattern = padded 7 0 us }) (record { ok = false; pattern = replicate 7 0 })
+unfoldable pub units_of : List ℕ → Option (List ℕ)
+units_of us = cond (all_between 0 255 us) (Some (padded 7 0 us)) None
 
 -- ── a line after some tasks ─────────────────────────────────────────────────
 
@@ -48,3 +55,12 @@ refusal_after rs l = cond (skipped l) 0 (line_refusal (length rs) l)
 
 unfoldable pub tasks_after : List TaskRecord → List ℕ → List TaskRecord
 tasks_after rs l = cond (skipped l) rs (rs ++ line_task l ∷ [])
+
+-- ── a list ──────────────────────────────────────────────────────────────────
+
+-- a refusal for which no line is to blame
+pub record BlamesNoLine (why : Refusal) (e : Refused) : Type 0 where
+  pub same : e.why ≡ why
+  pub line : e.line ≡ 0
+  pub start : e.start ≡ 0
+  pub text : e.text.now ≡ []

@@ -1,12 +1,14 @@
 -- Document 01, "The list": what a line says, and the reply to a list.
-use Rattle.std.specs.Prelude.{Bool, false, cond, ◌&&◌, ◌||◌, List, [], ◌∷◌, ◌++◌, map, ℕ, zero, suc, ◌+◌, ◌-◌, ◌*◌, ◌/◌, leb, ltb, eqb, length, get_or, take, drop}
+use Rattle.std.specs.Prelude.{Bool, false, cond, ◌&&◌, ◌||◌, List, [], ◌∷◌, ◌++◌, map, ℕ, zero, suc, ◌+◌, ◌-◌, ◌*◌, ◌/◌, leb, ltb, eqb, length, get_or, take, drop, Result, Ok, Err}
 use Rattle.rules.specs.Lists.{all_of, is_zero, padded}
 use Rattle.rules.specs.Hyper.{hyper}
 use Rattle.rules.specs.Records.{TaskRecord, SetRecord, task_refusal, tasks_in}
 use Rattle.rules.specs.States.{blank_task, blank_set}
+use Rattle.tasks.specs.declared.TaskSet.{TaskSet}
+use Rattle.tasks.specs.Refusals.{number_of}
 use Rattle.tasks.specs.Views.{record_of}
 use Rattle.list.specs.Text.{lines, words}
-use Rattle.list.specs.declared.Reading.{Reading}
+use Rattle.list.specs.declared.Refused.{Refused}
 
 -- ── a field ─────────────────────────────────────────────────────────────────
 
@@ -99,9 +101,10 @@ read_list bs = cond (ltb 4096 (length bs)) (refused_whole 1) (read_from 1 0 [] (
 unfoldable pub shown : List ℕ → ReadReply → List ℕ
 shown bs r = take r.size (drop r.start bs)
 
--- what the code's struct stands for
-unfoldable pub reply_of : Reading → ReadReply
-reply_of r = record { refusal = r.refusal; line = r.line; start = r.start; size = r.size; set = record_of r.set }
+-- what the code's result stands for
+unfoldable pub reply_of : Result TaskSet Refused → ReadReply
+reply_of (Ok set) = record { refusal = 0; line = 0; start = 0; size = 0; set = record_of set }
+reply_of (Err e) = record { refusal = number_of e.why; line = e.line; start = e.start; size = length e.text.now; set = blank_set }
 
 -- all of the above, for proofs that compute
 unfoldable pub open_reading : Type 0

@@ -1,150 +1,132 @@
 // The reader of task lists.
 #![tactic(auto)]
 
-ghost use Rattle.std.specs.Prelude.{List, [], ◌∷◌, ◌++◌, ◌≡◌, ◌<◌};
+ghost use Rattle.std.specs.Prelude.{List, [], ◌∷◌, ◌++◌, ◌≡◌, ◌<◌, IfErr, IfOk, Ok};
 ghost use Rattle.rules.specs.Records.{TaskRecord};
-ghost use Rattle.rules.specs.States.{blank_set};
+ghost use Rattle.tasks.specs.Refusals.{number_of};
 ghost use Rattle.tasks.specs.Views.{entry_of, record_of};
-ghost use Rattle.list.specs.Reading.{reply_of, refused_line, accepted, read_list, shown};
-ghost use Rattle.list.specs.Inner.{refusal_after, tasks_after};
+ghost use Rattle.list.specs.Reading.{reply_of, accepted, finish, read_list, refused_whole, shown};
+ghost use Rattle.list.specs.Inner.{BlamesNoLine, refusal_after, tasks_after};
 
-use crate::line::{line_task, no_task};
-use crate::text::{is_skipped, line_size};
-use tasks::set::hyper_period;
-use tasks::{Task, TaskSet};
+use crate::line::line_task;
+use crate::text::{first_line, is_skipped};
+use tasks::{Refusal, Task, TaskSet};
 
 mod fields;
 mod line;
+mod numbers;
 mod text;
 
-// The reply to a list: the refusal or 0, the refused line's number, where it starts and how long it is, and the set. On a refusal the set has no task and zeros throughout.
-#[derive(Clone, Copy)]
-pub struct Reading {
-    pub refusal: u8,
+// The most bytes of a list, and the most tasks of a set.
+const MOST_BYTES: usize = 4096;
+
+const MOST_TASKS: u8 = 8;
+
+// Why a list is refused, and the refused line: its number from 1, where it starts in the list, and its text. Where no line is to blame, the line is 0 and its text an empty one at 0.
+#[derive(Clone, Copy, Debug, PartialEq, Eq)]
+pub struct Refused<'a> {
+    pub why: Refusal,
     pub line: usize,
     pub start: usize,
-    pub size: usize,
-    pub set: TaskSet,
+    pub text: &'a [u8],
 }
 
-// The set after a line, and the line's refusal or 0.
-#[derive(Clone, Copy)]
-struct After {
-    refusal: u8,
-    set: TaskSet,
-}
+// A refusal for which no line is to blame.
+impl From<Refusal> for Refused<'_> {
+    ghost from_gives = { BlamesNoLine };
 
-// The set with no task and zeros throughout.
-fn no_set() -> TaskSet
-    ensures { record_of result ≡ blank_set }
-{
-    let none = no_task();
-    TaskSet {
-        count: 0,
-        tasks: [none; 8],
-    }
-}
-
-fn refused(refusal: u8, line: usize, start: usize, size: usize) -> Reading
-    ensures { reply_of result ≡ refused_line refusal line start size }
-{
-    let set = no_set();
-    Reading {
-        refusal,
-        line,
-        start,
-        size,
-        set,
+    fn from(why: Refusal) -> Self {
+        Refused {
+            why,
+            line: 0,
+            start: 0,
+            text: &[],
+        }
     }
 }
 
 // The set that has read `rs`, with one task more.
+#[tactic(auto, using(crate::proofs::Sets::set_more))]
 fn with_task(set: TaskSet, task: Task) -> TaskSet
     requires { set.count < 8 }
     ensures { (rs : List TaskRecord) → record_of set ≡ (accepted rs).set → record_of result ≡ (accepted (rs ++ entry_of task ∷ [])).set }
 {
-    let at = set.count as usize;
     let mut more = set;
-    more.tasks[at] = task;
-    more.count = set.count + 1;
+    more.tasks[usize::from(set.count)] = task;
+    more.count += 1;
     more
 }
 
 // A line, after the set that has read `rs`. A ninth task is 5 whatever its line holds.
-fn after_line(set: TaskSet, line: &[u8]) -> After
-    ensures refused { (rs : List TaskRecord) → record_of set ≡ (accepted rs).set → result.refusal ≡ refusal_after rs line.now }
-    ensures good { (rs : List TaskRecord) → record_of set ≡ (accepted rs).set → result.refusal ≡ 0 → record_of result.set ≡ (accepted (tasks_after rs line.now)).set }
+#[tactic(auto, using(crate::proofs::Sets::set_laws))]
+fn after_line(set: TaskSet, line: &[u8]) -> Result<TaskSet, Refusal>
+    ensures good { (rs : List TaskRecord) → record_of set ≡ (accepted rs).set → IfOk result (λ more. (refusal_after rs line.now ≡ 0) × (record_of more ≡ (accepted (tasks_after rs line.now)).set)) }
+    ensures refused { (rs : List TaskRecord) → record_of set ≡ (accepted rs).set → IfErr result (λ refusal. refusal_after rs line.now ≡ number_of refusal) }
 {
     if is_skipped(line) {
-        return After { refusal: 0, set };
+        return Ok(set);
     }
-    let v = line_task(line);
-    let n = v.refusal;
-    let count = set.count;
-    if 8 <= count {
-        return After { refusal: 5, set };
+    if MOST_TASKS <= set.count {
+        return Err(Refusal::TaskCount);
     }
-    if n != 0 {
-        return After { refusal: n, set };
-    }
-    let task = v.task;
-    let more = with_task(set, task);
-    After {
-        refusal: 0,
-        set: more,
-    }
+    let task = line_task(line)?;
+    Ok(with_task(set, task))
 }
 
 // The end of a list, after the set that has read `rs`: 5 if there is no task, 6 by the hyper-period.
-fn finish(set: TaskSet) -> Reading
-    ensures { (rs : List TaskRecord) → record_of set ≡ (accepted rs).set → reply_of result ≡ Rattle.list.specs.Reading.finish rs }
+#[tactic(auto, using(crate::proofs::Sets::end_laws))]
+fn finish(set: TaskSet) -> Result<TaskSet, Refusal>
+    ensures good { (rs : List TaskRecord) → record_of set ≡ (accepted rs).set → IfOk result (λ more. finish rs ≡ reply_of (Ok more)) }
+    ensures refused { (rs : List TaskRecord) → record_of set ≡ (accepted rs).set → IfErr result (λ refusal. finish rs ≡ refused_whole (number_of refusal)) }
 {
     if set.count == 0 {
-        return refused(5, 0, 0, 0);
+        return Err(Refusal::TaskCount);
     }
-    if 4096 < hyper_period(set) {
-        return refused(6, 0, 0, 0);
+    if set.hyper_period().is_none() {
+        return Err(Refusal::HyperTooLong);
     }
-    Reading {
-        refusal: 0,
-        line: 0,
-        start: 0,
-        size: 0,
-        set,
-    }
+    Ok(set)
 }
 
-// The reading of a list: line by line, the first bad line deciding.
-pub fn read(list: &[u8]) -> Reading
-    ensures { reply_of result ≡ read_list list.now }
+// The set of a list, read line by line, the first bad line deciding.
+#[tactic(auto, using(crate::proofs::ByLines::list_laws))]
+pub fn read(list: &[u8]) -> Result<TaskSet, Refused<'_>>
+    ensures reply { reply_of result ≡ read_list list.now }
+    ensures text { IfErr result (λ e. e.text.now ≡ shown list.now (read_list list.now)) }
 {
-    if 4096 < list.len() {
-        return refused(1, 0, 0, 0);
+    if MOST_BYTES < list.len() {
+        return Err(Refusal::ListTooLong.into());
     }
-    let mut set = no_set();
+    let mut set = TaskSet::default();
     let mut line = 1;
-    let mut start = 0;
-    while start < list.len() {
-        let size = line_size(list, start);
-        let end = start + size;
-        let a = after_line(set, &list[start..end]);
-        let refusal = a.refusal;
-        if refusal != 0 {
-            return refused(refusal, line, start, size);
-        }
-        set = a.set;
+    let mut rest = list;
+    while !rest.is_empty() {
+        let start = list.len() - rest.len();
+        let (text, behind) = first_line(rest);
+        set = match after_line(set, text) {
+            Ok(more) => more,
+            Err(why) => {
+                return Err(Refused {
+                    why,
+                    line,
+                    start,
+                    text,
+                });
+            }
+        };
         line += 1;
-        start = end + 1;
+        rest = behind;
     }
-    finish(set)
+    Ok(finish(set)?)
 }
 
 // The refused line as it stands in the list, without its line feed; an empty part at the list's start where no line is refused.
+#[tactic(auto, using(crate::proofs::ByLines::shown_none))]
 pub fn refused_line(list: &[u8]) -> &[u8]
     ensures { result.now ≡ shown list.now (read_list list.now) }
 {
-    let r = read(list);
-    let start = r.start;
-    let end = start + r.size;
-    &list[start..end]
+    match read(list) {
+        Ok(_) => &[],
+        Err(e) => e.text,
+    }
 }

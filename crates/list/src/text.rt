@@ -1,69 +1,62 @@
 // The bytes of a text: what ends a line, what parts fields, and what is skipped.
-ghost use Rattle.std.specs.Prelude.{◌≡◌, [], ◌≤◌, length, get_or, drop};
-ghost use Rattle.list.specs.Text.{ends_line, parts_fields, lines};
+ghost use Rattle.std.specs.Prelude.{◌≡◌, not, position};
+ghost use Rattle.list.specs.Text.{ends_line, parts_fields};
 ghost use Rattle.list.specs.Reading.{is_comment, skipped};
-ghost use Rattle.list.specs.Inner.{GapSize};
+ghost use Rattle.list.specs.Inner.{IsFirstLine};
 
 // What ends a line: a line feed.
+#[tactic(auto, unfolding(crate::specs::Text::ends_line))]
 fn ends_line(b: u8) -> bool
     ensures { result ≡ ends_line b }
 {
-    b == 10
+    b == b'\n'
 }
 
 // What parts fields: a space.
+#[tactic(auto, unfolding(crate::specs::Text::parts_fields))]
 pub fn parts_fields(b: u8) -> bool
     ensures { result ≡ parts_fields b }
 {
-    b == 32
+    b == b' '
 }
 
-// How many bytes the line that starts at `start` has, up to its end.
-pub fn line_size(list: &[u8], start: usize) -> usize
-    requires { start ≤ length list.now }
-    ensures { result ≡ length (get_or (lines (drop start list.now)) 0 []) }
+// Where the first line ends, if a line feed ends it.
+fn line_end(text: &[u8]) -> Option<usize>
+    ensures { result ≡ position ends_line text.now }
 {
-    let mut i = start;
-    while i < list.len() {
-        if ends_line(list[i]) {
-            return i - start;
-        }
-        i += 1;
+    text.iter().position(|b| ends_line(*b))
+}
+
+// The first line without its line feed, and what is behind it.
+#[tactic(auto, using(crate::proofs::Lines::line_cut, crate::proofs::Lines::line_whole))]
+pub fn first_line(text: &[u8]) -> (&[u8], &[u8])
+    ensures { IsFirstLine text.now result.0.now result.1.now }
+{
+    match line_end(text) {
+        Some(end) => (&text[..end], &text[end + 1..]),
+        None => (text, &[]),
     }
-    i - start
 }
 
 // A line whose first byte is `#`.
+#[tactic(auto, unfolding(crate::specs::Reading::is_comment))]
 fn is_comment(line: &[u8]) -> bool
     ensures { result ≡ is_comment line.now }
 {
-    if line.len() == 0 {
-        return false;
-    }
-    line[0] == 35
+    matches!(line, [b'#', ..])
 }
 
-// The bytes that part fields at the start of a line.
-pub fn gap_size(line: &[u8]) -> usize
-    ensures { GapSize line.now result }
+// Where the first field starts, if there is one.
+pub fn field_start(line: &[u8]) -> Option<usize>
+    ensures { result ≡ position (λ b. not (parts_fields b)) line.now }
 {
-    let mut i = 0;
-    while i < line.len() {
-        let b = line[i];
-        if !parts_fields(b) {
-            return i;
-        }
-        i += 1;
-    }
-    i
+    line.iter().position(|b| !parts_fields(*b))
 }
 
 // A line that says nothing: a comment, or only what parts fields.
+#[tactic(auto, using(crate::proofs::Words::skipped_tells))]
 pub fn is_skipped(line: &[u8]) -> bool
     ensures { result ≡ skipped line.now }
 {
-    if is_comment(line) {
-        return true;
-    }
-    gap_size(line) == line.len()
+    is_comment(line) || field_start(line).is_none()
 }

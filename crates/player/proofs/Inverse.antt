@@ -1,11 +1,11 @@
 -- What is written is read back, and what is read is written back.
 use mathlib.Core.Path.{◌≡◌, refl, sym, ap, ◌∙◌}
-use mathlib.Core.Bool.{true}
+use mathlib.Core.Bool.{Bool, true}
 use mathlib.Core.List.{List, [], ◌∷◌, ◌++◌, append_assoc, map, map-id}
 use Prim.Native.Nat.{ℕ, zero, suc, ◌+◌, ◌*◌, ◌≤◌, ◌<◌}
 use native.Mathlib.Nat.{mod-add-div, add-mul-mod_self_left, mod-eq_of_lt, zero-add, add-zero}
 use native.Mathlib.Omega.{arith}
-use lib.Dec.{T, leb→le, eqb}
+use lib.Dec.{T, leb, leb→le, eqb}
 use lib.ListN.{length, get_or, drop, drop_of_length-le}
 use lib.Seq.{get_or-drop, drop-cons, drop-drop, drop_at}
 use borrow.Author.Tests.{le-leb, eq-eqb, eqb-true}
@@ -19,7 +19,6 @@ use Rattle.player.specs.Bytes.{state_size, low, high, pair, joined, task_bytes, 
 use Rattle.player.specs.Widths.{AllBytes}
 use Rattle.player.proofs.Places.{joined-single}
 use Rattle.player.proofs.Sizes.{pair_size, job-size, task-size, set-size, after_jobs, after_planned, after_slot, after_set, parts, planned-size, jobs-size, state-size}
-use Rattle.player.proofs.Codes.{known}
 
 -- ── a string from a place on ────────────────────────────────────────────────
 
@@ -169,6 +168,10 @@ module _ (bs : List ℕ) where
       ∙ map-id r.entries in
       rw (head_at 0 r.count (joined task_bytes r.entries ++ rest) e, ← a.eight, entries)
 
+-- the byte stands for a standing
+abbrev known : ℕ → Bool
+known b = leb b 5
+
 -- a test of what a list holds
 all_known : (js : List Job) → all_of known (map (λ j. stand_byte j.stand) js) ≡ true
 unfolding all_of
@@ -241,7 +244,7 @@ module _ (bs : List ℕ) (ok : readable bs ≡ true) where
   unfolding readable state_size
   readable-stands = (T_and (eqb (length bs) 140) (all_of known (tabulate (λ k. get_or bs (115 + k * 3) 0) 0 8)) (true-T (readable bs) ok)).1
 
-  stand-fits : (k : ℕ) → k < 8 → get_or bs (115 + k * 3) 0 ≤ 5
+  pub stand-fits : (k : ℕ) → k < 8 → get_or bs (115 + k * 3) 0 ≤ 5
   stand-fits k h =
       let e = tabulate-at (λ k. get_or bs (115 + k * 3) 0) 0 8 k 0 h ∙ ap (λ k. get_or bs (115 + k * 3) 0) (zero-add k) in
       let l = tabulate-length (λ k. get_or bs (115 + k * 3) 0) 0 8 in

@@ -1,13 +1,12 @@
--- Arrays read from places of a string, and written to places of a string: what a loop over the places keeps, and what it has at the end.
-use mathlib.Core.Path.{◌≡◌, refl, sym, ap, ◌∙◌}
+-- Arrays made entry by entry, and parts of a string: what a loop over the entries keeps, what it has at the end, and parts written one behind the other.
+use mathlib.Core.Path.{◌≡◌, refl, ap, ◌∙◌}
 use mathlib.Core.Logic.{◌⊎◌, inl, inr}
-use mathlib.Core.List.{List, [], ◌∷◌, ◌++◌, append_assoc, append-nil}
-use Prim.Native.Nat.{ℕ, zero, suc, ◌+◌, ◌*◌, ◌≤◌, ◌<◌}
+use mathlib.Core.List.{List, [], ◌∷◌, ◌++◌}
+use Prim.Native.Nat.{ℕ, zero, suc, ◌+◌, ◌≤◌, ◌<◌}
 use native.Mathlib.Nat.{zero-add}
-use native.Mathlib.Numerals.{add-one}
 use native.Mathlib.Omega.{arith}
-use lib.ListN.{length, get_or, set, take, drop, length-set, length-append}
-use lib.Seq.{get_or-set_same, get_or-set_other, sets, sets-eq, length-sets}
+use lib.ListN.{length, get_or, set, drop, length-set}
+use lib.Seq.{get_or-set_same, get_or-set_other, sets, sets-eq}
 use Rattle.rules.specs.Lists.{tabulate}
 use Rattle.rules.proofs.Laws.{le-or-lt}
 use Rattle.player.specs.Bytes.{joined}
@@ -19,17 +18,6 @@ module _ {A : Type 0} where
   unfolding tabulate
   tabulate-same f g i zero h = refl
   tabulate-same f g i (suc n) h = rw (h i (omega arith), tabulate-same f g (suc i) n (λ k l. h k (omega arith)))
-
-  pub tabulate-more : (g : ℕ → A) (i n : ℕ) → tabulate g i (suc n) ≡ tabulate g i n ++ (g (i + n) ∷ [])
-  unfolding tabulate
-  tabulate-more g i zero = let e : i + 0 ≡ i = omega arith in rw e
-  tabulate-more g i (suc n) = let e : suc i + n ≡ i + suc n = omega arith in ap (λ l. g i ∷ l) (tabulate-more g (suc i) n ∙ ap (λ k. tabulate g (suc i) n ++ (g k ∷ [])) e)
-
-  pub tabulate-few : (g : ℕ → A) (i n m : ℕ) → n ≤ m → take n (tabulate g i m) ≡ tabulate g i n
-  unfolding tabulate
-  tabulate-few g i zero m h = refl
-  tabulate-few g i (suc n) zero h = absurd (omega arith)
-  tabulate-few g i (suc n) (suc m) h = ap (λ l. g i ∷ l) (tabulate-few g (suc i) n m (omega arith))
 
 -- ── reading ─────────────────────────────────────────────────────────────────
 
@@ -73,41 +61,3 @@ pub joined-single : (xs : List ℕ) → joined (λ (x : ℕ). x ∷ []) xs ≡ x
 unfolding joined
 joined-single [] = refl
 joined-single (x ∷ xs) = ap (λ l. x ∷ l) (joined-single xs)
-
-module _ {A : Type 0} (f : A → List ℕ) where
-  pub joined-append : (xs ys : List A) → joined f (xs ++ ys) ≡ joined f xs ++ joined f ys
-  unfolding joined
-  joined-append [] ys = refl
-  joined-append (x ∷ xs) ys = ap (λ l. f x ++ l) (joined-append xs ys) ∙ sym (append_assoc (f x) (joined f xs) (joined f ys))
-
-  module _ (g : ℕ → A) (n : ℕ) (each : (k : ℕ) → length (f (g k)) ≡ n) where
-    pub joined_length : (i m : ℕ) → length (joined f (tabulate g i m)) ≡ m * n
-    unfolding joined tabulate
-    joined_length i zero = omega arith
-    joined_length i (suc m) = omega (arith, length-append (f (g i)) (joined f (tabulate g (suc i) m)), each i, joined_length (suc i) m)
-
-  pub joined-more : (g : ℕ → A) (m : ℕ) → joined f (tabulate g 0 (m + 1)) ≡ joined f (tabulate g 0 m) ++ f (g m)
-  unfolding joined
-  joined-more g m = rw (add-one, tabulate-more g 0 m, zero-add, joined-append (tabulate g 0 m) (g m ∷ []), append-nil)
-
-  -- entries of n bytes each are written from `base` on; o is the string before
-  module _ (g : ℕ → A) (n base : ℕ) (o : List ℕ) where
-    -- the entries before place i are written
-    pub record Put (i : ℕ) (out : List ℕ) : Type 0 where
-      pub each : (k : ℕ) → length (f (g k)) ≡ n
-      pub long : length out ≡ length o
-      pub same : out ≡ sets o base (joined f (tabulate g 0 i))
-
-    pub put-start : ((k : ℕ) → length (f (g k)) ≡ n) → Put 0 o
-    unfolding joined tabulate
-    put-start e = record { each = e; long = refl; same = refl }
-
-    pub put_step : (i : ℕ) (out more : List ℕ) → Put i out → more ≡ sets out (base + i * n) (f (g i)) → Put (i + 1) more
-    put_step i out more p e = record {
-      each = p.each;
-      long = ap length e ∙ length-sets out (base + i * n) (f (g i)) ∙ p.long;
-      same = e ∙ rw (p.same, ← joined_length g n p.each 0 i) (sym (sets-append o base (joined f (tabulate g 0 i)) (f (g i)))) ∙ ap (λ l. sets o base l) (sym (joined-more g i));
-    }
-
-    pub put-end : (m i : ℕ) (out : List ℕ) → Put i out → i ≡ m → out ≡ sets o base (joined f (tabulate g 0 m))
-    put-end m i out p e = rw (← e) p.same

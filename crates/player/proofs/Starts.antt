@@ -1,128 +1,100 @@
 -- Laws of a start: the set tidied, the fresh state, and a table followed from the start.
 use mathlib.Core.Path.{◌≡◌, refl, sym, ap, ◌∙◌}
-use mathlib.Core.Bool.{Bool, true, false, not, ◌&&◌}
-use mathlib.Core.List.{List, map}
-use Prim.Native.Nat.{ℕ, zero, suc, ◌+◌, ◌≤◌, ◌<◌}
+use mathlib.Core.Bool.{Bool, true, false, ◌&&◌}
+use mathlib.Core.List.{List, ◌++◌, map}
+use Prim.Native.Nat.{ℕ, zero, suc, ◌+◌, ◌-◌, ◌≤◌, ◌<◌}
 use native.Mathlib.Numerals.{add-one}
 use native.Mathlib.Omega.{arith}
-use lib.ListN.{length, get_or, take, drop, set, replicate, length-map, length-replicate, get_or-replicate, drop_of_length-le}
+use lib.Dec.{T}
+use lib.ListN.{length, get_or, take, drop, set, replicate, length-append, length-map, length-replicate, get_or-replicate, drop_of_length-le}
 use lib.Seq.{drop-cons, length-take-le, get_or-take, ext_get_or}
-use borrow.Author.Tests.{eq-eqb, ne_eqb, not-true, not-false}
+use borrow.Author.Tests.{eq-eqb, ne_eqb}
+use Rattle.std.proofs.lemmas.List.{drop-replicate, map-append}
+use Rattle.std.specs.Prelude.{Option, Some, None, Result, Ok, Err}
 use Rattle.rules.specs.Lists.{tabulate, padded}
 use Rattle.rules.specs.Positions.{idle, each, passed, ended, restarted, next, live_position, legal, start}
 use Rattle.rules.specs.Hyper.{hyper}
 use Rattle.rules.specs.Choices.{live_from}
-use Rattle.rules.specs.Records.{TaskRecord, task_in, no_record, or_else, SetRecord, used, set_in, record_refusal}
+use Rattle.rules.specs.Records.{TaskRecord, task_in, no_record, or_else, used, set_in, record_refusal}
 use Rattle.rules.specs.Jobs.{finished}
 use Rattle.rules.specs.Player.{fresh}
-use Rattle.rules.specs.States.{blank_job, blank_task, blank_set, blank_state, tidy_task, tidied, as_record, is_schedule, start_refusal, started_or, start_reply}
-use lib.Dec.{T}
+use Rattle.rules.specs.States.{blank_job, blank_task, tidy_task, tidied, as_record, is_schedule, start_refusal, started_or, start_reply}
 use Rattle.rules.proofs.Laws.{T_true, true-T, each-length}
 use Rattle.rules.proofs.Set.Admitted.{tasks-length}
 use Rattle.tasks.specs.declared.Task.{Task}
 use Rattle.tasks.specs.declared.TaskSet.{TaskSet}
-use Rattle.tasks.specs.Views.{no_entry, entry_of, record_of, task_of, set_of, progress_of, position_of, array_of, bounded}
-use Rattle.tasks.proofs.Multiple.{hyper-whole}
-use Rattle.tasks.proofs.Views.{used-at}
-use Rattle.tasks.proofs.OneTask.{pattern-short, entry_read}
+use Rattle.tasks.specs.declared.refusal.Refusal.{Refusal}
+use Rattle.tasks.specs.declared.refusal.Refusal.TheVariants.{BadTable}
+use Rattle.tasks.specs.Refusals.{number_of}
+use Rattle.tasks.specs.Views.{no_entry, entry_of, record_of, task_of, set_of, progress_of, position_of, array_of}
+use Rattle.tasks.proofs.OneTask.{pattern-short}
 use Rattle.tasks.proofs.Positions.{set-fits, progress-length, progress-array}
+use Rattle.tasks.proofs.Refusals.{number-some}
 use Rattle.player.specs.declared.Stand.TheVariants.{Ready}
 use Rattle.player.specs.declared.Job.{Job}
 use Rattle.player.specs.declared.State.{State}
-use Rattle.player.specs.declared.Started.{Started}
-use Rattle.player.specs.Answers.{start_answer, started_of}
-use Rattle.player.specs.Views.{stand_of, job_of, no_job, eight, jobs_of, state_of}
+use Rattle.player.specs.Answers.{StartAnswer, start_answer, started_of}
+use Rattle.player.specs.Views.{stand_of, job_of, no_job, eight, jobs_of, runner_number, state_of}
 use Rattle.player.proofs.Arrays.{Made, made-start, made-step, made-end, map_at, padded-length, padded-same}
-
--- ── entries not in use ──────────────────────────────────────────────────────
-
-pub job-blank : job_of (record { stand = Ready; step = 0; given = 0 }) ≡ blank_job
-unfolding job_of stand_of blank_job
-job-blank = refl
-
-pub task-blank : entry_of (record { period = 0; deadline = 0; steps = 0; pattern = replicate 7 0 }) ≡ blank_task
-unfolding entry_of blank_task tabulate
-task-blank = refl
-
-pub set-blank : (t : Task) → entry_of t ≡ blank_task → record_of (record { count = 0; tasks = replicate 8 t }) ≡ blank_set
-unfolding record_of blank_set tabulate
-set-blank t e = rw e
-
-pub state-blank : (s : TaskSet) (j : Job) → record_of s ≡ blank_set → job_of j ≡ blank_job
-    → state_of (record { set = s; slot = 0; planned = replicate 8 0; jobs = replicate 8 j; last = 0 }) ≡ blank_state
-unfolding state_of jobs_of eight blank_state tabulate
-state-blank s j e f = rw (e, f)
+use Rattle.player.proofs.Views.{listed, jobs-map, map-replicate}
 
 -- ── the set tidied ──────────────────────────────────────────────────────────
 
-module _ (t : Task) where
-  abbrev pub Units : ℕ → List ℕ → Type 0
-  Units i out = Made 7 (λ (u : ℕ). u) 0 0 (task_of t).pattern i out
+-- a list written over the first of m copies
+written-over : {A : Type 0} (m : ℕ) (x : A) (xs : List A) → xs ++ drop (length xs) (replicate m x) ≡ padded m x xs
+unfolding padded
+written-over m x xs = ap (λ l. xs ++ l) (drop-replicate (length xs) m x)
 
-  pub units-start : Units 0 (replicate 7 0)
-  units-start = made-start 7 (λ (u : ℕ). u) 0 0 (task_of t).pattern 0 refl
+pub tidy-units : (t : Task) (xs : List ℕ) → xs ≡ (task_of t).pattern
+    → entry_of (record { period = t.period; deadline = t.deadline; steps = t.steps; pattern = xs ++ drop (length xs) (replicate 7 0) }) ≡ tidy_task (entry_of t)
+unfolding entry_of tidy_task task_of task_in
+tidy-units t xs e =
+    let s = pattern-short t in
+    ap (λ us. record { period = t.period; deadline = t.deadline; steps = t.steps; units = us })
+    (ap (λ l. tabulate (λ i. get_or l i 0) 0 7) (written-over 7 0 xs ∙ ap (padded 7 0) e) ∙ listed (padded 7 0 (task_of t).pattern) 7 (padded-length 0 7 (task_of t).pattern s))
 
-  pub units-step : (i n : ℕ) (out : List ℕ) → Units i out → n ≡ length (task_of t).pattern → i < n → Units (i + 1) (set out i (get_or t.pattern i 0))
-  units-step i n out m e h = let k = pattern-short t in made-step 7 (λ (u : ℕ). u) 0 0 (task_of t).pattern i out (get_or t.pattern i 0) m (omega arith) (entry_read t i (omega arith))
-
-  pub units-end : (i n : ℕ) (out : List ℕ) → Units i out → n ≡ length (task_of t).pattern → n ≤ i
-      → entry_of (record { period = t.period; deadline = t.deadline; steps = t.steps; pattern = out }) ≡ tidy_task (entry_of t)
-  unfolding entry_of tidy_task task_of task_in
-  units-end i n out m e h =
-      ap (λ us. record { period = t.period; deadline = t.deadline; steps = t.steps; units = us }) (made-end 7 (λ (u : ℕ). u) 0 0 (task_of t).pattern i out m (omega arith) (pattern-short t))
-
-module _ (s : TaskSet) where
+module _ (ts : List Task) where
   abbrev tidy : List TaskRecord
-  tidy = map tidy_task (used (record_of s))
+  tidy = map tidy_task (map entry_of ts)
 
-  tidy-length : length tidy ≡ length (set_of s)
-  unfolding set_of set_in
-  tidy-length = length-map (used (record_of s)) tidy_task ∙ sym (tasks-length (used (record_of s)))
+  tidy-length : length tidy ≡ length ts
+  tidy-length = length-map (map entry_of ts) tidy_task ∙ length-map ts entry_of
 
-  tidy-at : (i : ℕ) → i < length (set_of s) → get_or tidy i blank_task ≡ tidy_task (entry_of (get_or s.tasks i no_entry))
-  tidy-at i h =
-      let f = set-fits s in
-      let e = tidy-length in
-      let l = length-map (used (record_of s)) tidy_task in
-      map_at tidy_task (used (record_of s)) i no_record blank_task (omega arith) ∙ ap tidy_task (used-at s i no_record (omega arith) (omega arith))
+  tidy-at : (i : ℕ) (d : Task) → i < length ts → get_or tidy i blank_task ≡ tidy_task (entry_of (get_or ts i d))
+  tidy-at i d h = let l = length-map ts entry_of in map_at tidy_task (map entry_of ts) i no_record blank_task (omega arith) ∙ ap tidy_task (map_at entry_of ts i d no_record h)
 
-  abbrev pub Entries : ℕ → List Task → Type 0
-  Entries i out = Made 8 entry_of no_entry blank_task tidy i out
+  -- the entries before place i are tidy, and blank ones follow
+  pub record Tidied (i : ℕ) (out : List Task) : Type 0 where
+    pub made : Made 8 entry_of no_entry blank_task tidy i out
 
-  pub entries-start : (t : Task) → entry_of t ≡ blank_task → Entries 0 (replicate 8 t)
-  entries-start t e = made-start 8 entry_of no_entry blank_task tidy t e
+  pub tidied-start : (t : Task) → entry_of t ≡ blank_task → Tidied 0 (replicate 8 t)
+  tidied-start t e = record { made = made-start 8 entry_of no_entry blank_task tidy t e }
 
-  pub entries-step : (i n : ℕ) (out : List Task) (t : Task) → Entries i out → n ≡ length (set_of s) → i < n → entry_of t ≡ tidy_task (entry_of (get_or s.tasks i no_entry)) → Entries (i + 1) (set out i t)
-  entries-step i n out t m q h e = let f = set-fits s in made-step 8 entry_of no_entry blank_task tidy i out t m (omega arith) (e ∙ sym (tidy-at i (omega arith)))
+  pub tidied-step : (i : ℕ) (out : List Task) (t d : Task) → Tidied i out → i < length ts → length ts ≤ 8 → entry_of t ≡ tidy_task (entry_of (get_or ts i d)) → Tidied (i + 1) (set out i t)
+  tidied-step i out t d m h k e = record { made = made-step 8 entry_of no_entry blank_task tidy i out t m.made (omega arith) (e ∙ sym (tidy-at i d h)) }
 
-  tidied-is : (out : List Task) → tabulate (λ k. entry_of (get_or out k no_entry)) 0 8 ≡ padded 8 blank_task tidy → record_of (record { count = s.count; tasks = out }) ≡ tidied (record_of s)
+  pub tidied-end : (s : TaskSet) (i : ℕ) (out : List Task) → map entry_of ts ≡ used (record_of s) → Tidied i out → length ts ≤ i → length ts ≤ 8 → record_of (record { count = s.count; tasks = out }) ≡ tidied (record_of s)
   unfolding record_of tidied
-  tidied-is out e = ap (λ es. record { count = s.count; entries = es }) e
-
-  pub entries-end : (i n : ℕ) (out : List Task) → Entries i out → n ≡ length (set_of s) → n ≤ i → record_of (record { count = s.count; tasks = out }) ≡ tidied (record_of s)
-  entries-end i n out m q h =
-      let f = set-fits s in
+  tidied-end s i out e m h k =
       let l = tidy-length in
-      tidied-is out (made-end 8 entry_of no_entry blank_task tidy i out m (omega arith) (omega arith))
+      ap (λ es. record { count = s.count; entries = es }) (made-end 8 entry_of no_entry blank_task tidy i out m.made (omega arith) (omega arith) ∙ ap (λ es. padded 8 blank_task (map tidy_task es)) e)
 
 -- ── the fresh state ─────────────────────────────────────────────────────────
 
-module _ (n : ℕ) where
-  abbrev pub Fresh : ℕ → List Job → Type 0
-  Fresh i out = Made 8 job_of no_job blank_job (replicate n finished) i out
-
-  pub fresh_start : (j : Job) → job_of j ≡ blank_job → Fresh 0 (replicate 8 j)
-  fresh_start j e = made-start 8 job_of no_job blank_job (replicate n finished) j e
-
-  pub fresh_step : (i : ℕ) (out : List Job) (j : Job) → Fresh i out → i < n → n ≤ 8 → job_of j ≡ finished → Fresh (i + 1) (set out i j)
-  fresh_step i out j m h k e = made-step 8 job_of no_job blank_job (replicate n finished) i out j m (omega arith) (e ∙ sym (get_or-replicate n i finished blank_job h))
-
-  pub fresh-end : (i : ℕ) (out : List Job) → Fresh i out → n ≤ i → n ≤ 8 → jobs_of out ≡ padded 8 blank_job (replicate n finished)
-  unfolding jobs_of
-  fresh-end i out m h k = let l = length-replicate n finished in made-end 8 job_of no_job blank_job (replicate n finished) i out m (omega arith) (omega arith)
+-- n jobs written over the first of eight
+pub fresh-jobs : (j d : Job) (n : ℕ) (fs : List Job) → n ≤ 8 → length fs ≡ n → ((k : ℕ) → k < n → get_or fs k no_job ≡ d) → job_of j ≡ blank_job → job_of d ≡ finished
+    → jobs_of (fs ++ drop n (replicate 8 j)) ≡ padded 8 blank_job (replicate n finished)
+unfolding padded
+fresh-jobs j d n fs few long all ej ed =
+    let l = length-replicate n d in
+    let r : fs ≡ replicate n d = ext_get_or no_job fs (replicate n d) (omega arith) (λ k h. all k (omega arith) ∙ sym (get_or-replicate n k d no_job (omega arith))) in
+    let e : 8 - n ≡ 8 - length (replicate n finished) = ap (λ m. 8 - m) (sym (length-replicate n finished)) in
+    let t = length-append (replicate n d) (replicate (8 - n) j) in
+    let m = length-replicate (8 - n) j in
+    rw (r, drop-replicate n 8 j) (jobs-map (replicate n d ++ replicate (8 - n) j) (omega arith) ∙ map-append job_of (replicate n d) (replicate (8 - n) j) ∙ rw (map-replicate job_of n d, map-replicate job_of (8 - n) j, ej, ed, e) refl)
 
 pub fresh-is : (s t : TaskSet) (js : List Job) (n : ℕ) → record_of t ≡ tidied (record_of s) → n ≡ length (set_of s) → jobs_of js ≡ padded 8 blank_job (replicate n finished)
-    → state_of (record { set = t; slot = 0; planned = replicate 8 0; jobs = js; last = 255 }) ≡ as_record (tidied (record_of s)) (fresh (set_of s))
+    → state_of (record { set = t; slot = 0; planned = replicate 8 0; jobs = js; last = None }) ≡ as_record (tidied (record_of s)) (fresh (set_of s))
 unfolding state_of as_record fresh eight tabulate idle
 fresh-is s t js n e q f = rw (e, f, q, padded-same {A = ℕ} 0 8 (length (set_of s)) (set-fits s).1)
 
@@ -167,71 +139,66 @@ module _ (s : TaskSet) (table : List ℕ) where
   abbrev pub whole : Bool
   whole = live_position (set_of s) (start (set_of s)) && live_from (set_of s) (start (set_of s)) table
 
-  pub no_start : (b : Bool) → b ≡ live_position (set_of s) (position_of s 0 (replicate 8 0)) → not b ≡ true → false ≡ whole
-  no_start b e h = rw (← starts-there s, ← e, not-true b h)
+  pub no_start : (b : Bool) → b ≡ live_position (set_of s) (position_of s 0 (replicate 8 0)) → b ≡ false → false ≡ whole
+  no_start b e h = rw (← starts-there s, ← e, h)
 
-  pub followed-start : (b : Bool) → b ≡ live_position (set_of s) (position_of s 0 (replicate 8 0)) → not b ≡ false → Followed 0 0 (replicate 8 0)
-  followed-start b e h = record { begun = true-T (live_position (set_of s) (start (set_of s))) (rw (← starts-there s, ← e) (not-false b h)); same = refl; long = refl; rest = rw (starts-there s) }
+  pub followed-start : (b : Bool) → b ≡ live_position (set_of s) (position_of s 0 (replicate 8 0)) → b ≡ true → Followed 0 0 (replicate 8 0)
+  followed-start b e h = record { begun = true-T (live_position (set_of s) (start (set_of s))) (rw (← starts-there s, ← e) h); same = refl; long = refl; rest = rw (starts-there s) }
 
   module _ (slot i : ℕ) (p : List ℕ) (b : Bool) (f : Followed slot i p) (l : i < length table) (e : b ≡ legal (set_of s) (position_of s slot p) (get_or table i 0)) where
     opened : live_from (set_of s) (position_of s slot p) (drop i table) ≡ legal (set_of s) (position_of s slot p) (get_or table i 0) && live_from (set_of s) (next (set_of s) (position_of s slot p) (get_or table i 0)) (drop (i + 1) table)
     unfolding live_from
     opened = rw (add-one, drop-cons table i 0 l)
 
-    pub followed-fail : not b ≡ true → false ≡ whole
-    followed-fail h = rw (T_true (live_position (set_of s) (start (set_of s))) f.begun) (sym (f.rest ∙ opened ∙ rw (← e, not-true b h) refl))
+    pub followed-fail : b ≡ false → false ≡ whole
+    followed-fail h = rw (T_true (live_position (set_of s) (start (set_of s))) f.begun) (sym (f.rest ∙ opened ∙ rw (← e, h) refl))
 
-    pub followed-step : (q : List ℕ) → not b ≡ false → q ≡ array_of (next (set_of s) (position_of s slot p) (get_or table i 0)).progress → Followed (slot + 1) (i + 1) q
+    pub followed-step : (q : List ℕ) → b ≡ true → q ≡ array_of (next (set_of s) (position_of s slot p) (get_or table i 0)).progress → Followed (slot + 1) (i + 1) q
     followed-step q h g = let d = f.same in record {
       begun = f.begun;
       same = omega arith;
       long = onward-length s slot p (get_or table i 0) f.long q g;
-      rest = f.rest ∙ opened ∙ rw (← e, not-false b h, onward-is s slot p (get_or table i 0) f.long q g) refl;
+      rest = f.rest ∙ opened ∙ rw (← e, h, onward-is s slot p (get_or table i 0) f.long q g) refl;
     }
 
   pub followed-end : (slot i : ℕ) (p : List ℕ) → Followed slot i p → length table ≤ i → true ≡ whole
   unfolding live_from
   followed-end slot i p f l = rw (T_true (live_position (set_of s) (start (set_of s))) f.begun) (sym (f.rest ∙ rw (drop_of_length-le table l) refl))
 
+pub ruleset follow_laws = (no_start, followed-start, followed-fail, followed-step, followed-end)
+
 -- ── the reply ───────────────────────────────────────────────────────────────
 
-answer-refused : (w : SetRecord) (k n : ℕ) (r : Started) → k ≡ n → (n ≡ 0 → ⊥) → r.refusal ≡ n → state_of r.state ≡ blank_state → started_of r ≡ start_answer (started_or w k)
-unfolding started_or start_answer started_of
-answer-refused w zero n r e z a b = absurd (z (sym e))
-answer-refused w (suc k) n r e z a b = rw (b, a ∙ sym e)
+module _ (s : TaskSet) (table : List ℕ) where
+  abbrev asked : StartAnswer
+  asked = start_answer (start_reply (record_of s) table true)
 
-module _ (s : TaskSet) (table : List ℕ) (n : ℕ) (en : n ≡ record_refusal (record_of s)) where
-  pub refused-set : (r : Started) → (n ≡ 0 → ⊥) → r.refusal ≡ n → state_of r.state ≡ blank_state → started_of r ≡ start_answer (start_reply (record_of s) table true)
-  unfolding start_reply start_refusal or_else
-  refused-set r z a b = answer-refused (record_of s) (start_refusal (record_of s) table true) n r (first n (sym en) z) z a b
+  refused : (r : Refusal) (n : ℕ) → number_of r ≡ n → start_refusal (record_of s) table true ≡ n → (n ≡ 0 → ⊥) → started_of (Err r) ≡ asked
+  unfolding started_of start_answer start_reply started_or
+  refused r zero k e z = absurd (z refl)
+  refused r (suc n) k e z = rw (e, k)
+
+  pub refused-set : (r : Refusal) → record_refusal (record_of s) ≡ number_of r → started_of (Err r) ≡ asked
+  unfolding start_refusal or_else
+  refused-set r e = refused r (number_of r) refl (first (number_of r) e (number-some r)) (number-some r)
     where
       first : (m : ℕ) → record_refusal (record_of s) ≡ m → (m ≡ 0 → ⊥) → start_refusal (record_of s) table true ≡ m
       first zero e z = absurd (z refl)
       first (suc m) e z = rw e
 
-  module _ (h : ℕ) (z : n ≡ 0) (eh : h ≡ bounded (hyper (set_of s))) where
-    fine : record_refusal (record_of s) ≡ 0
-    fine = sym en ∙ z
-
-    pub period : hyper (set_of s) ≡ h
-    period = sym (eh ∙ hyper-whole s fine)
-
-    unlisted : is_schedule (set_of s) table ≡ false → (r : Started) → r.refusal ≡ 12 → state_of r.state ≡ blank_state → started_of r ≡ start_answer (start_reply (record_of s) table true)
-    unfolding start_reply start_refusal set_of or_else
-    unlisted e r a b = answer-refused (record_of s) (start_refusal (record_of s) table true) 12 r (rw (fine, e)) (λ z. omega arith) a b
-
-    pub refused-length : (length table ≡ h → ⊥) → (r : Started) → r.refusal ≡ 12 → state_of r.state ≡ blank_state → started_of r ≡ start_answer (start_reply (record_of s) table true)
-    unfolding is_schedule
-    refused-length e r a b = unlisted (rw (ne_eqb (length table) (hyper (set_of s)) (λ q. e (q ∙ period)))) r a b
-
-    pub refused-table : length table ≡ h → (b : Bool) → b ≡ whole s table → not b ≡ true → (r : Started) → r.refusal ≡ 12 → state_of r.state ≡ blank_state → started_of r ≡ start_answer (start_reply (record_of s) table true)
-    unfolding is_schedule
-    refused-table e b g q r x y = unlisted (rw (eq-eqb (length table) (hyper (set_of s)) (e ∙ sym period), ← g) (not-true b q)) r x y
-
-    taken : is_schedule (set_of s) table ≡ true → start_refusal (record_of s) table true ≡ 0
+  module _ (fine : record_refusal (record_of s) ≡ 0) (h : ℕ) (eh : h ≡ hyper (set_of s)) where
+    unlisted : is_schedule (set_of s) table ≡ false → started_of (Err BadTable) ≡ asked
     unfolding start_refusal set_of or_else
-    taken e = rw (fine, e)
+    unlisted e = refused BadTable 12 refl (rw (fine, e)) (λ z. omega arith)
 
-    pub accepted : length table ≡ h → (b : Bool) → b ≡ whole s table → not b ≡ false → (w : State) → state_of w ≡ as_record (tidied (record_of s)) (fresh (set_of s)) → started_of (record { refusal = 0; state = w }) ≡ start_answer (start_reply (record_of s) table true)
-    unfolding start_reply started_or start_answer started_of is_schedule set_of
-    accepted e b g q w x = rw (taken (rw (eq-eqb (length table) (hyper (set_of s)) (e ∙ sym period), ← g) (not-false b q)), x)
+    pub refused-length : (length table ≡ h → ⊥) → started_of (Err BadTable) ≡ asked
+    unfolding is_schedule
+    refused-length e = unlisted (rw (ne_eqb (length table) (hyper (set_of s)) (λ q. e (q ∙ sym eh))))
+
+    pub refused-table : length table ≡ h → (b : Bool) → b ≡ whole s table → b ≡ false → started_of (Err BadTable) ≡ asked
+    unfolding is_schedule
+    refused-table e b g q = unlisted (rw (eq-eqb (length table) (hyper (set_of s)) (e ∙ eh), ← g) q)
+
+    pub accepted : length table ≡ h → (b : Bool) → b ≡ whole s table → b ≡ true → (w : State) → state_of w ≡ as_record (tidied (record_of s)) (fresh (set_of s)) → started_of (Ok w) ≡ asked
+    unfolding start_reply started_or start_answer started_of start_refusal is_schedule set_of or_else
+    accepted e b g q w x = rw (fine, eq-eqb (length table) (hyper (set_of s)) (e ∙ eh), sym g ∙ q, x)

@@ -1,6 +1,10 @@
 pub mod Views
 pub mod Answers
 pub mod Bytes
+pub mod Standings
 pub mod Widths
 pub mod Boundary
-pub mod Looks
+pub mod Forms
+pub mod Tested
+pub mod Reports
+pub mod Turns

@@ -1,44 +1,48 @@
--- `list::read` is the reading of the list. The invariant: the set has read some tasks, and the lines from `start` on decide. Assumes nothing.
-use mathlib.Core.Path.{sym, ◌∙◌}
-use native.Mathlib.Omega.{arith}
-use Rattle.list.proofs.Lines.{line-fits}
-use Rattle.list.proofs.ByLines.{progress-begins, progress-stops, progress-passes, list-long, list-ends}
+-- `list::read` is the reading of the list. Assumes nothing.
+use Rattle.std.proofs.Common.{◌≡◌, ◌<◌, ℕ, Bool, true, false, sym, ◌∙◌, arith}
+use Rattle.std.specs.Prelude.{◌==◌}
+use Rattle.std.proofs.lemmas.Bool.Decides.{nat_tests}
+use Rattle.list.specs.Reading.{reply_of, refused_line}
+use Rattle.list.proofs.ByLines.{list_ends, line_stops, line_shown, line_passes, reply_passed, text_passed}
 use Rattle.list.proofs.read.Goals as goal
 
-pub returns-then-list-gt4096 : goal.returns-then-list-gt4096
-returns-then-list-gt4096 c = c.refused.ensures ∙ list-long c.args.list.now c.if-list-gt4096.true
+-- what `is_empty` says
+some : {b : Bool} {n : ℕ} → b ≡ (n == 0) → b ≡ false → 0 < n
+some e h = grind (arith, nat_tests)
 
-pub loop-start-init : goal.loop-start-init
-loop-start-init c = progress-begins c.args.list.now c.no_set-set.result c.if-list-gt4096.false c.no_set-set.ensures
+none : {b : Bool} {n : ℕ} → b ≡ (n == 0) → b ≡ true → n ≡ 0
+none e h = grind (arith, nat_tests)
 
-pub overflow_add-end : goal.overflow_add-end
-overflow_add-end c = omega (arith, line-fits c.args.list.now c.loop-start.start c.line_size-size.result c.loop-start-test.true c.line_size-size.ensures)
+pub returns-in-Err-clause-reply : goal.returns-in-Err-clause-reply
+unfolding reply_of refused_line
+returns-in-Err-clause-reply c =
+    let p = c.loop-rest.invariant in
+    sym (line_stops c.args.list.now c.loop-rest.set c.loop-rest.line c.loop-rest.rest.now p _ _ c.first_line.ensures (some c.is_empty.ensures c.loop-rest-test.true) c.in-Err.why (c.in-Err.ensures.refused p.tasks p.holds))
 
-pub slice_bounds-after_line-end : goal.slice_bounds-after_line-end
-slice_bounds-after_line-end c = omega (arith, line-fits c.args.list.now c.loop-start.start c.line_size-size.result c.loop-start-test.true c.line_size-size.ensures)
+pub returns-in-Err-clause-text : goal.returns-in-Err-clause-text
+returns-in-Err-clause-text c =
+    let p = c.loop-rest.invariant in
+    line_shown c.args.list.now c.loop-rest.set c.loop-rest.line c.loop-rest.rest.now p _ _ c.first_line.ensures (some c.is_empty.ensures c.loop-rest-test.true) c.in-Err.why (c.in-Err.ensures.refused p.tasks p.holds)
 
-pub returns-then-refusal-ne0 : goal.returns-then-refusal-ne0
-returns-then-refusal-ne0 c =
-    let l = c in
-    let n = c.line_size-size in
-    c.refused-then-refusal-ne0.ensures
-    ∙ progress-stops l.args.list.now l.loop-start.set l.loop-start.line l.loop-start.start n.result l.loop-start.invariant c.loop-start-test.true n.ensures
-    c.after_line-a.result.refusal (c.after_line-a.ensures.refused l.loop-start.invariant.tasks l.loop-start.invariant.holds) c.if-refusal-ne0.true
+pub loop-rest-preserved : goal.loop-rest-preserved
+loop-rest-preserved c =
+    let p = c.loop-rest.invariant in
+    let g = c.in-Ok.ensures.good p.tasks p.holds in
+    line_passes c.args.list.now c.loop-rest.set c.loop-rest.line c.loop-rest.rest.now p _ _ c.first_line.ensures (some c.is_empty.ensures c.loop-rest-test.true) c.in-Ok.more g.0 g.1
 
-pub overflow_add-line : goal.overflow_add-line
-overflow_add-line c = omega arith
+pub returns-in_err-finish-clause-reply : goal.returns-in_err-finish-clause-reply
+returns-in_err-finish-clause-reply c =
+    let p = c.loop-rest.invariant in
+    reply_passed c.args.list.now c.from_residual.result c.in_err-finish.field-0.0 c.from_residual.ensures.1
+    (list_ends c.args.list.now c.loop-rest.set c.loop-rest.line c.loop-rest.rest.now p (none c.is_empty.ensures c.loop-rest-test.false) ∙ c.in_err-finish.ensures.refused p.tasks p.holds)
 
-pub loop-start-preserved : goal.loop-start-preserved
-loop-start-preserved c =
-    let l = c in
-    let n = c.line_size-size in
-    let a = c.after_line-a in
-    let e = sym (a.ensures.refused l.loop-start.invariant.tasks l.loop-start.invariant.holds) ∙ c.if-refusal-ne0.false in
-    progress-passes l.args.list.now l.loop-start.set l.loop-start.line l.loop-start.start n.result l.loop-start.invariant c.loop-start-test.true n.ensures
-    a.result.set e (a.ensures.good l.loop-start.invariant.tasks l.loop-start.invariant.holds c.if-refusal-ne0.false)
+pub returns-in_err-finish-clause-text : goal.returns-in_err-finish-clause-text
+returns-in_err-finish-clause-text c =
+    let p = c.loop-rest.invariant in
+    text_passed c.args.list.now c.from_residual.result c.in_err-finish.field-0.0 c.from_residual.ensures.1
+    (list_ends c.args.list.now c.loop-rest.set c.loop-rest.line c.loop-rest.rest.now p (none c.is_empty.ensures c.loop-rest-test.false) ∙ c.in_err-finish.ensures.refused p.tasks p.holds)
 
-pub returns : goal.returns
-returns c =
-    let l = c in
-    let p = l.loop-start.invariant in
-    c.finish.ensures p.tasks p.holds ∙ sym (p.reads ∙ list-ends l.args.list.now l.loop-start.line l.loop-start.start p.tasks c.loop-start-test.false)
+pub returns-clause-reply : goal.returns-clause-reply
+returns-clause-reply c =
+    let p = c.loop-rest.invariant in
+    sym (c.in_ok-finish.ensures.good p.tasks p.holds) ∙ sym (list_ends c.args.list.now c.loop-rest.set c.loop-rest.line c.loop-rest.rest.now p (none c.is_empty.ensures c.loop-rest-test.false))

@@ -1,15 +1,24 @@
--- `player::start` gives the reply of the rules. Assumes nothing.
+-- A refused set is passed on, and a table is a schedule or not.
+use mathlib.Core.Path.{◌∙◌, sym}
 use Rattle.player.proofs.Starts.{refused-set, refused-length, refused-table, accepted}
+use Rattle.player.proofs.Views.{passed_on}
 use Rattle.player.proofs.start.Goals as goal
+use Rattle.player.proofs.start.Goals.{then-table-from-via-then-table-from, then-table-from-via-else-table-from+then-not-is_live}
 
-pub returns-then-judged-ne0 : goal.returns-then-judged-ne0
-returns-then-judged-ne0 c = search refused-set
+pub returns-in_err-hyper : goal.returns-in_err-hyper
+returns-in_err-hyper c = rw (passed_on c.from_residual.result c.in_err-hyper.field-0.0 c.from_residual.ensures.1) (refused-set c.args.set.now c.args.table.now c.in_err-hyper.field-0.0 c.in_err-hyper.ensures.refused)
 
-pub returns-then-table-judged : goal.returns-then-table-judged
-returns-then-table-judged c = search refused-length
-
-pub returns-then-not-is_live : goal.returns-then-not-is_live
-returns-then-not-is_live c = search refused-table
+pub returns-then-table-from : goal.returns-then-table-from
+returns-then-table-from c =
+    let s = c.args.set.now in
+    let t = c.args.table.now in
+    let k = c.in_ok-hyper.ensures.admitted in
+    elim c.then-table-from.branch [
+      then-table-from-via-then-table-from w ↦ refused-length s t k.0 c.in_ok-hyper.hyper k.1 (λ e. w.if-table-from.true (e ∙ sym c.from.ensures))
+      | then-table-from-via-else-table-from+then-not-is_live w ↦ refused-table s t k.0 c.in_ok-hyper.hyper k.1 (w.if-table-from.false ∙ c.from.ensures) w.is_live.result w.is_live.ensures w.if-not-is_live.true
+    ]
 
 pub returns : goal.returns
-returns c = search accepted
+returns c =
+    let k = c.in_ok-hyper.ensures.admitted in
+    accepted c.args.set.now c.args.table.now k.0 c.in_ok-hyper.hyper k.1 (c.if-table-from.false ∙ c.from.ensures) c.is_live.result c.is_live.ensures c.if-not-is_live.false c.fresh_state.result c.fresh_state.ensures

@@ -1,15 +1,38 @@
--- `player::tick` gives the reply of the rules. Assumes nothing.
-use Rattle.player.proofs.ByValue.{value-refused, value-accepted}
+-- Each refusal is that of the rules, and so is what an accepted tick gives.
+use mathlib.Core.Path.{◌≡◌, ◌∙◌, sym, ap}
+use Prim.Native.Nat.{◌<◌}
+use native.Mathlib.Omega.{arith}
+use borrow.Author.Rules.{rules}
+use lib.ListN.{length}
+use Rattle.player.proofs.Ticks.{refused-form, slot-in, refused-reports, refused-length, refused-entry, accepted}
+use Rattle.player.proofs.Views.{passed_on}
 use Rattle.player.proofs.tick.Goals as goal
 
-pub returns-then-number-gt255 : goal.returns-then-number-gt255
-returns-then-number-gt255 c =
-    let t = c in
-    let p = t in
-    value-refused p.args.state _ _ _ _ _ _ p.put_state.ensures t.tick_string-number.ensures.number t.tick_string-number.ensures.buffer t.tick_string-number.ensures.shown _ c.if-number-gt255.true c.tick_refused.ensures
+pub returns-in_err-formed : goal.returns-in_err-formed
+returns-in_err-formed c = rw (passed_on c.from_residual.result c.in_err-formed.field-0.0 c.from_residual.ensures.1, c.in_err-formed.ensures.0) (refused-form _ _ _ c.in_err-formed.ensures.1)
+
+pub returns-then-reports-from : goal.returns-then-reports-from
+returns-then-reports-from c = refused-reports _ _ _ c.in_ok-formed.formed c.in_ok-formed.ensures (λ e. c.if-reports-from.true (e ∙ sym c.from.ensures))
+
+pub returns-then-table-from : goal.returns-then-table-from
+returns-then-table-from c = refused-length _ _ _ c.in_ok-formed.formed c.in_ok-formed.ensures (c.if-reports-from.false ∙ c.from.ensures) (λ e. c.if-table-from.true (e ∙ sym c.from-2.ensures))
+
+pub bounds-table-from : goal.bounds-table-from
+bounds-table-from c = omega (arith, slot-in c.args.state c.args.table.now c.args.reports.now c.in_ok-formed.formed c.in_ok-formed.ensures)
+
+pub returns-then-not-legal : goal.returns-then-not-legal
+returns-then-not-legal c =
+    let long : length c.args.state.planned ≡ 8 = search rules in
+    let leads = rw (c.from-3.ensures) at c.advance-legal.ensures.leads in
+    refused-entry _ _ _ c.in_ok-formed.formed c.in_ok-formed.ensures (c.if-reports-from.false ∙ c.from.ensures) (c.if-table-from.false ∙ c.from-2.ensures) long _ leads c.if-not-legal.true
+
+pub slot_after-requires : goal.slot_after-requires
+slot_after-requires c = slot-in c.args.state c.args.table.now c.args.reports.now c.in_ok-formed.formed c.in_ok-formed.ensures
 
 pub returns : goal.returns
 returns c =
-    let t = c in
-    let p = t in
-    value-accepted p.args.state _ _ _ _ _ _ p.put_state.ensures t.tick_string-number.ensures.number t.tick_string-number.ensures.buffer t.tick_string-number.ensures.shown _ c.if-number-gt255.false c.get_state.ensures
+    let long : length c.args.state.planned ≡ 8 = search rules in
+    let leads = rw (c.from-3.ensures) at c.advance-legal.ensures.leads in
+    let lands = rw (c.from-3.ensures) at c.advance-legal.ensures.lands in
+    accepted _ _ _ c.in_ok-formed.formed c.in_ok-formed.ensures (c.if-reports-from.false ∙ c.from.ensures) (c.if-table-from.false ∙ c.from-2.ensures) long _ leads c.if-not-legal.false _ lands
+        _ c.slot_after.ensures _ c.turns-runner.ensures.jobs _ c.turns-runner.ensures.faults _ c.turns-runner.ensures.runner

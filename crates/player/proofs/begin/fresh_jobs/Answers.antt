@@ -1,13 +1,16 @@
--- `player::begin::fresh_jobs` are n jobs that are done. The invariant: those before place i are, and blank ones follow. Assumes nothing.
-use borrow.Author.Rules.{rules}
-use Rattle.player.proofs.Starts.{fresh_start, fresh_step, fresh-end}
+-- n finished jobs, and blank ones behind them.
+use mathlib.Core.Path.{◌≡◌, refl, ◌∙◌}
+use lib.ListN.{length, take, replicate}
+use lib.Seq.{length-take-le}
+use native.Mathlib.Omega.{arith}
+use Rattle.rules.specs.States.{blank_job}
+use Rattle.player.specs.Views.{no_job, stand_of, job_of}
+use Rattle.player.proofs.Starts.{fresh-jobs}
 use Rattle.player.proofs.begin.fresh_jobs.Goals as goal
 
-pub loop-i-init : goal.loop-i-init
-loop-i-init c = (search rules, search fresh_start)
-
-pub loop-i-preserved : goal.loop-i-preserved
-loop-i-preserved c = (search rules, search fresh_step)
-
 pub returns : goal.returns
-returns c = search fresh-end
+unfolding job_of stand_of blank_job
+returns c =
+    let j = c.default-jobs.result in
+    let l : length (take c.args.n (replicate 8 j)) ≡ c.args.n = length-take-le c.args.n (replicate 8 j) c.requires in
+    fresh-jobs j c.done.result c.args.n c.fill.new.self c.requires (c.fill.ensures.len ∙ l) (λ k h. c.fill.ensures.clones k no_job (omega arith) refl) (grind arith) c.done.ensures

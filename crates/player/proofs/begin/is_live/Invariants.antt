@@ -1,11 +1,6 @@
--- `player::begin::is_live` tells whether the table is a live list. The invariant: the table from slot i on tells of all. Assumes nothing.
-use Prim.Native.Nat.{◌-◌, ◌≤◌}
-use lib.ListN.{length}
+-- The table from this slot on tells of all.
 use Rattle.player.proofs.Starts.{Followed}
 use Rattle.player.proofs.begin.is_live.Given as goal
 
-abbrev pub invariant-loop-i : goal.invariant-loop-i
-invariant-loop-i l = (l.i ≤ length l.table) × (length l.table ≤ 65535) × Followed l.s l.table l.slot l.i l.progress
-
-abbrev pub decreases-loop-i : goal.decreases-loop-i
-decreases-loop-i l = length l.table - l.i
+abbrev pub invariant-loop-entry : goal.invariant-loop-entry
+invariant-loop-entry l = Followed l.set l.table l.at.slot l.entry-index l.at.progress

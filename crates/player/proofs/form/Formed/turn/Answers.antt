@@ -1,0 +1,22 @@
+-- A state of the form has a job of its form for each task.
+use mathlib.Core.Path.{ap, ◌∙◌}
+use Prim.Native.Nat.{ℕ}
+use lib.Dec.{eqb}
+use lib.ListN.{get_or}
+use Rattle.tasks.specs.Views.{no_entry, task_of}
+use Rattle.rules.specs.Jobs.{turn}
+use Rattle.player.specs.Views.{no_job, job_of}
+use Rattle.player.proofs.InForm.{job-formed, plan-anew, turn-is}
+use Rattle.player.proofs.form.Formed.turn.Goals as goal
+
+pub invariant_of-result : goal.invariant_of-result
+invariant_of-result c =
+    let x = c.args.self.now in
+    let i = c.args.i in
+    record { formed = rw (c.ran.ensures) (job-formed x.state x.formed i c.requires.used); anew = plan-anew x.state x.formed i c.requires.used }
+
+pub returns : goal.returns
+returns c report =
+    let x = c.args.self.now in
+    let i = c.args.i in
+    rw (c.ran.ensures, c.from.ensures) (turn-is x.state x.formed c.args.entry i report c.requires.used)
