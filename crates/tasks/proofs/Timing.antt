@@ -13,9 +13,9 @@ use mir.Syntax.{w16, w32}
 use mir.Val.{Fits, SFits, to_z, of_z}
 use mir.Facts.{to_z-of_z}
 use lib.Dec.{leb, eqb}
-use lib.ListN.{length, get_or, take, drop, drop_of_length-le}
-use lib.Seq.{drop-cons}
-use Rattle.rules.specs.Tasks.{Task, is_done, standing, Standing, done, within, sum, span}
+use lib.ListN.{length, get_or, take, drop, drop_of_length-le, length-take}
+use lib.Seq.{drop-cons, get_or-take}
+use Rattle.rules.specs.Tasks.{Task, is_done, standing, Standing, ready, waiting, done, within, sum, span}
 use Rattle.rules.specs.Positions.{moved, in_time, laxity}
 use Rattle.tasks.specs.declared.timed.Timed.{Timed}
 use Rattle.tasks.specs.Timed.{timed_task}
@@ -43,7 +43,49 @@ module _ (a b : Standing) (ns : List ℕ) (i p : ℕ) where
   unfolding within
   within-end h = rw (drop_of_length-le ns h)
 
-pub ruleset withins = (within-here, within-more, within-end)
+-- the standing inside entry i
+abbrev pub turn : ℕ → Standing
+turn i = cond (eqb (i % 2) 0) ready waiting
+
+turn-on : (i : ℕ) → turn (i + 1 + 1) ≡ turn i
+turn-on i = let e : (i + 1 + 1) % 2 ≡ i % 2 = omega arith in ap (λ k. cond (eqb k 0) ready waiting) e
+
+-- progress p stands as `left` does in the entries from i on
+abbrev pub Stands : Timed → ℕ → ℕ → ℕ → Type 0
+Stands t p i left = within (turn i) (turn (i + 1)) (drop i (take t.entries t.pattern)) left ≡ standing (timed_task t) p
+
+pub stands_start : (t : Timed) (p : ℕ) → Stands t p 0 p
+unfolding standing timed_task
+stands_start t p = refl
+
+module _ (t : Timed) (p i left : ℕ) (v : Stands t p i left) (seven : 7 ≡ length t.pattern) where
+  abbrev ns : List ℕ
+  ns = take t.entries t.pattern
+
+  pub stands_end : t.entries ≤ i → standing_of Done ≡ standing (timed_task t) p
+  unfolding standing_of
+  stands_end h = sym (within-end (turn i) (turn (i + 1)) ns i left (omega (arith, length-take t.entries t.pattern))) ∙ v
+
+  module _ (u : ℕ) (units : u ≡ get_or t.pattern i 0) (h : i < t.entries) where
+    inside : i < length ns
+    inside = let f = t.few in omega (arith, length-take t.entries t.pattern)
+
+    unit-is : get_or ns i 0 ≡ u
+    unit-is = get_or-take t.entries t.pattern i 0 h ∙ sym units
+
+    pub stands-in : left < u → (s : stands.Standing) → turn i ≡ standing_of s → standing_of s ≡ standing (timed_task t) p
+    stands-in k s e = sym e ∙ sym (within-here (turn i) (turn (i + 1)) ns i left inside (rw unit-is k)) ∙ v
+
+    pub stands-ready : left < u → i % 2 ≡ 0 → standing_of Ready ≡ standing (timed_task t) p
+    unfolding standing_of
+    stands-ready k e = stands-in k Ready (rw e)
+
+    pub stands-waiting : left < u → (i % 2 ≡ 0 → ⊥) → standing_of Waiting ≡ standing (timed_task t) p
+    unfolding standing_of
+    stands-waiting k e = stands-in k Waiting (rw (ne_eqb (i % 2) 0 e))
+
+    pub stands_more : u ≤ left → Stands t p (i + 1) (left - u)
+    stands_more k = rw (turn-on i, ← unit-is) (sym (within-more (turn i) (turn (i + 1)) ns i left inside (rw unit-is k)) ∙ v)
 
 -- ── the time since release ──────────────────────────────────────────────────
 
