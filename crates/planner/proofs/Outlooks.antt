@@ -117,12 +117,13 @@ module _ (n : ℕ) (rows : List Timed) (progress : List ℕ) (slot : ℕ) where
     pub small : waits ≤ 255
     pub rising : waits ≡ mark (drop i now_of) (drop i (ended set-of now_of idle))
     pub claims : urgent ≡ claimed slot i (drop i set-of) (drop i now_of)
+    pub kept : (j : ℕ) → j < i → get_or stay j 0 ≡ get_or progress j 0
     pub staying : (j : ℕ) → i ≤ j → j < n → get_or stay j 0 ≡ onward slot (get_or set-of j no_task) (stayed (get_or set-of j no_task) (get_or now_of j 0))
     pub going : (j : ℕ) → i ≤ j → j < n → get_or (map one_more go) j 0 ≡ gone slot (get_or set-of j no_task) (get_or now_of j 0)
 
-  pub looked-start : (stay : List ℕ) (go : List (Option ℕ)) → Laid n rows → length rows ≡ 8 → length progress ≡ 8 → length stay ≡ 8 → length go ≡ 8 → Looked n 0 256 stay go
+  pub looked-start : (go : List (Option ℕ)) → Laid n rows → length rows ≡ 8 → length progress ≡ 8 → length go ≡ 8 → Looked n 0 256 progress go
   unfolding mark claimed
-  looked-start stay go laid r e f g =
+  looked-start go laid r e g =
       let few = laid.few in
       let l : length now_of ≡ n = length-take-le n progress (omega arith) in
       let m = rows-length n rows in
@@ -131,11 +132,12 @@ module _ (n : ℕ) (rows : List Timed) (progress : List ℕ) (slot : ℕ) where
         laid = laid;
         eights = r;
         eight = e;
-        long = f;
+        long = e;
         long' = g;
         small = omega arith;
         rising = rw (drop_of_length-le now_of {i = n} (omega arith));
         claims = rw (drop_of_length-le set-of {i = n} (omega arith));
+        kept = λ j h. refl;
         staying = λ j h k. let z : ⊥ = omega arith in absurd z;
         going = λ j h k. let z : ⊥ = omega arith in absurd z;
       }
@@ -211,19 +213,20 @@ module _ (n : ℕ) (rows : List Timed) (progress : List ℕ) (slot : ℕ) where
         small = let n = mark-byte (drop k now_of) (drop k (ended set-of now_of idle)) (omega (arith, length-drop k now_of)) in omega arith;
         rising = m;
         claims = y ∙ rw (way.ending, v.claims) (sym (claimed-at k h most v.eight));
+        kept = λ j a. get_or-set_other stay k j st 0 (λ z. omega arith) ∙ v.kept j (omega arith);
         staying = written (λ j. onward slot (get_or set-of j no_task) (stayed (get_or set-of j no_task) (get_or now_of j 0))) stay k st (omega arith) (rw (r, q) way.staying) v.staying;
         going = rw (map-set one_more go k g) (written (λ j. gone slot (get_or set-of j no_task) (get_or now_of j 0)) (map one_more go) k (one_more g) (omega (arith, length-map go one_more)) (rw (r, q) way.going) v.going);
       }
 
   pub looked-step : (i waits urgent : ℕ) (stay : List ℕ) (go : List (Option ℕ)) → Looked i waits urgent stay go → 0 < i
-      → (r : Timed) (rises well : Bool) (st : ℕ) (g : Option ℕ) → IsWay slot (timed_task (get_or rows (i - 1) r)) (get_or progress (i - 1) 0) rises well st (one_more g)
+      → (r : Timed) (rises well : Bool) (st : ℕ) (g : Option ℕ) → IsWay slot (timed_task (get_or rows (i - 1) r)) (get_or stay (i - 1) 0) rises well st (one_more g)
       → (u : ℕ) → u ≡ claim urgent well (i - 1) → Looked (i - 1) (waits * 2 + bool_byte rises) u (set stay (i - 1) st) (set go (i - 1) g)
   looked-step i waits urgent stay go v h r rises well st g way u y =
       let z : i ≡ suc (i - 1) = omega arith in
       let few = v.few in
       let m = v.laid.few in
       let l = v.eights in
-      step (i - 1) waits urgent stay go rises well st g (waits * 2 + bool_byte rises) u (rw z at v) (rw (row_is rows (i - 1) r (omega arith)) at way) (bit_put waits rises) y
+      step (i - 1) waits urgent stay go rises well st g (waits * 2 + bool_byte rises) u (rw z at v) (rw (row_is rows (i - 1) r (omega arith), v.kept (i - 1) (omega arith)) at way) (bit_put waits rises) y
 
   pub looked-end : (i waits urgent : ℕ) (stay : List ℕ) (go : List (Option ℕ)) → Looked i waits urgent stay go → i ≤ 0 → Ahead set-of slot now_of waits urgent stay (map one_more go)
   looked-end i waits urgent stay go v h =

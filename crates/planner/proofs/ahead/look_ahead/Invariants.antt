@@ -4,4 +4,4 @@ use Rattle.planner.proofs.Outlooks.{Looked}
 use Rattle.planner.proofs.ahead.look_ahead.Given as goal
 
 abbrev pub invariant-loop-i : goal.invariant-loop-i
-invariant-loop-i l = Looked l.n l.rows l.progress l.slot l.i l.waits (urgent_of l.urgent) l.stay l.go
+invariant-loop-i l = Looked l.n l.rows l.initial.progress l.slot l.i l.waits (urgent_of l.urgent) l.progress l.go
