@@ -127,12 +127,13 @@ module _ (n : ℕ) (rows : List Timed) (progress : List ℕ) (slot : ℕ) where
     pub counted : late + i ≤ n
     pub byte : first ≤ 255
     pub claims : urgent_in late first ≡ claimed slot i (drop i set-of) (drop i now_of)
+    pub kept : (j : ℕ) → j < i → get_or stay j 0 ≡ get_or progress j 0
     pub staying : (j : ℕ) → i ≤ j → j < n → get_or stay j 0 ≡ onward slot (get_or set-of j no_task) (stayed (get_or set-of j no_task) (get_or now_of j 0))
     pub going : (j : ℕ) → i ≤ j → j < n → get_or (map one_more go) j 0 ≡ gone slot (get_or set-of j no_task) (get_or now_of j 0)
 
-  pub looked-start : (stay : List ℕ) (go : List (Option ℕ)) → Laid n rows → length rows ≡ 8 → length progress ≡ 8 → length stay ≡ 8 → length go ≡ 8 → Looked n 0 0 0 stay go
+  pub looked-start : (go : List (Option ℕ)) → Laid n rows → length rows ≡ 8 → length progress ≡ 8 → length go ≡ 8 → Looked n 0 0 0 progress go
   unfolding mark claimed urgent_in
-  looked-start stay go laid r e f g =
+  looked-start go laid r e g =
       let few = laid.few in
       let l : length now_of ≡ n = length-take-le n progress (omega arith) in
       let m = rows-length n rows in
@@ -141,13 +142,14 @@ module _ (n : ℕ) (rows : List Timed) (progress : List ℕ) (slot : ℕ) where
         laid = laid;
         eights = r;
         eight = e;
-        long = f;
+        long = e;
         long' = g;
         small = omega arith;
         rising = rw (drop_of_length-le now_of {i = n} (omega arith));
         counted = omega arith;
         byte = omega arith;
         claims = rw (drop_of_length-le set-of {i = n} (omega arith));
+        kept = λ j h. refl;
         staying = λ j h k. let z : ⊥ = omega arith in absurd z;
         going = λ j h k. let z : ⊥ = omega arith in absurd z;
       }
@@ -225,12 +227,13 @@ module _ (n : ℕ) (rows : List Timed) (progress : List ℕ) (slot : ℕ) where
         counted = y.0;
         byte = y.1;
         claims = y.2 ∙ rw (way.ending, v.claims) (sym (claimed-at k h most v.eight));
+        kept = λ j a. get_or-set_other stay k j st 0 (λ z. omega arith) ∙ v.kept j (omega arith);
         staying = written (λ j. onward slot (get_or set-of j no_task) (stayed (get_or set-of j no_task) (get_or now_of j 0))) stay k st (omega arith) (rw (r, q) way.staying) v.staying;
         going = rw (map-set one_more go k g) (written (λ j. gone slot (get_or set-of j no_task) (get_or now_of j 0)) (map one_more go) k (one_more g) (omega (arith, length-map go one_more)) (rw (r, q) way.going) v.going);
       }
 
   module _ (i waits late first : ℕ) (stay : List ℕ) (go : List (Option ℕ)) (v : Looked i waits late first stay go) (h : 0 < i)
-      (r : Timed) (rises well : Bool) (st : ℕ) (g : Option ℕ) (way : IsWay slot (timed_task (get_or rows (i - 1) r)) (get_or progress (i - 1) 0) rises well st (one_more g)) where
+      (r : Timed) (rises well : Bool) (st : ℕ) (g : Option ℕ) (way : IsWay slot (timed_task (get_or rows (i - 1) r)) (get_or stay (i - 1) 0) rises well st (one_more g)) where
     stepped : (u f : ℕ) → (u + (i - 1) ≤ n) × (f ≤ 255) × (urgent_in u f ≡ claim (urgent_in late first) well (i - 1))
         → Looked (i - 1) (waits * 2 + bool_byte rises) u f (set stay (i - 1) st) (set go (i - 1) g)
     stepped u f y =
@@ -238,7 +241,7 @@ module _ (n : ℕ) (rows : List Timed) (progress : List ℕ) (slot : ℕ) where
         let few = v.few in
         let m = v.laid.few in
         let l = v.eights in
-        step (i - 1) waits late first stay go rises well st g (waits * 2 + bool_byte rises) u f (rw z at v) (rw (row_is rows (i - 1) r (omega arith)) at way) (bit_put waits rises) y
+        step (i - 1) waits late first stay go rises well st g (waits * 2 + bool_byte rises) u f (rw z at v) (rw (row_is rows (i - 1) r (omega arith), v.kept (i - 1) (omega arith)) at way) (bit_put waits rises) y
 
     pub looked-late : not well ≡ true → Looked (i - 1) (waits * 2 + bool_byte rises) (late + 1) (i - 1) (set stay (i - 1) st) (set go (i - 1) g)
     looked-late e =

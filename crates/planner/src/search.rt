@@ -29,13 +29,6 @@ pub struct Search {
     pub recorded: usize,
 }
 
-// What a step gives: a search to go on with, or the answer that ends it.
-#[derive(Clone, Copy, Debug, PartialEq, Eq)]
-pub enum Stepped {
-    Going(Search),
-    Ended(Answer),
-}
-
 #[tactic(auto, using(crate::proofs::Steps::behind_laws))]
 // The choice to try behind that of a slot: the tasks in their order, then idle, then none.
 fn choice_behind(n: usize, choice: u8) -> Option<Choice>
@@ -87,56 +80,60 @@ fn first_task(
 fn lead_on(
     rows: &[Timed; 8],
     n: usize,
-    at: Search,
+    at: &mut Search,
     choice: Choice,
     table: &mut [u8],
     area: &[u16],
-) -> Search
-    requires { Trying n rows.now at choice table.old area.now }
-    ensures { Tries (row_tasks n rows.now) (machine_of n at table.old area.now) (machine_of n result table.new area.now) }
+)
+    requires { Trying n rows.now at.old choice table.old area.now }
+    ensures { Tries (row_tasks n rows.now) (machine_of n at.old table.old area.now) (machine_of n at.new table.new area.now) }
 {
     let slot = at.slot;
-    let recorded = at.recorded;
-    let progress = at.progress;
-    let mut stay = [0; 8];
+    let before = at.progress;
     let mut go = [None; 8];
-    let ahead = look_ahead(rows, n, slot, &progress, &mut stay, &mut go);
+    let ahead = look_ahead(rows, n, slot, &mut at.progress, &mut go);
     let task = first_task(
         n,
         choice,
         ahead.urgent,
         slot + 1,
-        recorded,
+        at.recorded,
         &go,
-        &mut stay,
+        &mut at.progress,
         area,
     );
     let mark = match task {
         Some(c) => ahead.waits + bit_of(c),
-        None if ahead.urgent.is_nobody() && !seen(area, recorded, n, slot + 1, &stay) => ahead.waits,
-        None => return Search { choice: None, ..at },
+        None if ahead.urgent.is_nobody() && !seen(area, at.recorded, n, slot + 1, &at.progress) => ahead.waits,
+        None => {
+            at.progress = before;
+            at.choice = None;
+            return;
+        }
     };
     table[slot as usize] = mark;
-    Search {
-        slot: slot + 1,
-        progress: stay,
-        choice: Some(Choice::Task(0)),
-        recorded,
-    }
+    at.slot = slot + 1;
+    at.choice = Some(Choice::Task(0));
 }
 
 #[tactic(auto, using(crate::proofs::Backs::back_laws))]
-// With no choice left to try the position is dead: it is recorded, and the last choice taken back.
-fn record_dead(rows: &[Timed; 8], n: usize, at: Search, table: &[u8], area: &mut [u16]) -> Stepped
-    requires { Recording n rows.now at table.now area.old }
-    ensures { Gives n result table.now area.new (shut (row_tasks n rows.now) (machine_of n at table.now area.old)) }
+// With no choice left to try the position is dead: it is recorded, and the last choice taken back, or the search is at its end.
+fn record_dead(
+    rows: &[Timed; 8],
+    n: usize,
+    at: &mut Search,
+    table: &[u8],
+    area: &mut [u16],
+) -> Option<Answer>
+    requires { Recording n rows.now at.old table.now area.old }
+    ensures { Gives n at.new result table.now area.new (shut (row_tasks n rows.now) (machine_of n at.old table.now area.old)) }
 {
     let slot = at.slot;
     let progress = at.progress;
     put(area, at.recorded, n, slot, &progress);
     let recorded = at.recorded + 1;
     if slot == 0 {
-        return Stepped::Ended(Answer {
+        return Some(Answer {
             word: Word::Infeasible,
             dead: recorded,
         });
@@ -145,37 +142,41 @@ fn record_dead(rows: &[Timed; 8], n: usize, at: Search, table: &[u8], area: &mut
     let mark = table[last as usize];
     let before = take_back(rows, n, slot, progress, mark);
     let choice = choice_from(rows, n, &before, mark);
-    Stepped::Going(Search {
+    *at = Search {
         slot: last,
         progress: before,
         choice: choice_behind(n, choice),
         recorded,
-    })
+    };
+    None
 }
 
 #[tactic(auto, using(crate::proofs::Steps::step_laws))]
-// One step of the search, of a hyper-period of h slots, in an area with room for so many records.
+// One step of the search, of a hyper-period of h slots, in an area with room for so many records: the answer, if it ends the search.
 fn step(
     rows: &[Timed; 8],
     n: usize,
     h: u16,
     room: usize,
-    at: Search,
+    at: &mut Search,
     table: &mut [u8],
     area: &mut [u16],
-) -> Stepped
-    requires { Fits n rows.now h room at table.old area.old }
-    ensures { Stepping (row_tasks n rows.now) room (machine_of n at table.old area.old) n result table.new area.new }
+) -> Option<Answer>
+    requires { Fits n rows.now h room at.old table.old area.old }
+    ensures { Stepping (row_tasks n rows.now) room (machine_of n at.old table.old area.old) n at.new result table.new area.new }
 {
     if at.slot == h {
-        return Stepped::Ended(Answer {
+        return Some(Answer {
             word: Word::Schedule,
             dead: at.recorded,
         });
     }
     match at.choice {
-        Some(choice) => Stepped::Going(lead_on(rows, n, at, choice, table, area)),
-        None if at.recorded == room => Stepped::Ended(Answer {
+        Some(choice) => {
+            lead_on(rows, n, at, choice, table, area);
+            None
+        }
+        None if at.recorded == room => Some(Answer {
             word: Word::OutOfRoom,
             dead: at.recorded,
         }),
@@ -202,9 +203,8 @@ pub(crate) fn run(
         recorded: 0,
     };
     loop {
-        match step(rows, n, h, room, at, table, area) {
-            Stepped::Going(on) => at = on,
-            Stepped::Ended(answer) => return answer,
+        if let Some(answer) = step(rows, n, h, room, &mut at, table, area) {
+            return answer;
         }
     }
 }
