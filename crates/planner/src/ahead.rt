@@ -1,5 +1,4 @@
 // What a slot does to each task, chosen and not: every choice of the slot is judged from one look at the tasks.
-// What a slot does to each task, chosen and not: every choice of the slot is judged from one look at the tasks.
 ghost use Rattle.std.specs.Prelude.{◌≡◌, cond, ◌||◌, suc, ◌+◌, ◌*◌, ◌^◌, ◌≤◌, ◌<◌, eqb, length, map, take};
 ghost use Rattle.tasks.specs.Slots.{well_at};
 ghost use Rattle.tasks.specs.Timed.{timed_task};
