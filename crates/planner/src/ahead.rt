@@ -94,25 +94,28 @@ fn claim_of(urgent: Urgent, well: bool, i: u8) -> Urgent
     }
 }
 
-// The look ahead: the mark of the tasks that rise unchosen, the tasks that have to be chosen, and each task's progress in the next slot, unchosen
-// and chosen.
+// The mark of the tasks that rise unchosen, and the tasks that have to be chosen.
 #[derive(Clone, Copy, Debug, PartialEq, Eq)]
 pub struct Outlook {
     pub waits: u8,
     pub urgent: Urgent,
-    pub stay: [u16; 8],
-    pub go: [Option<u16>; 8],
 }
 
-// The look ahead from a position.
-pub(crate) fn look_ahead(rows: &[Timed; 8], n: usize, slot: u16, progress: &[u16; 8]) -> Outlook
+// The look ahead from a position. Each task's progress in the next slot is put in `stay`, unchosen, and in `go`, chosen. (Given back in the outlook
+// they are copied, and planning misses its bar.)
+pub(crate) fn look_ahead(
+    rows: &[Timed; 8],
+    n: usize,
+    slot: u16,
+    progress: &[u16; 8],
+    stay: &mut [u16; 8],
+    go: &mut [Option<u16>; 8],
+) -> Outlook
     requires { Laid n rows.now }
-    ensures { Ahead (row_tasks n rows.now) slot (take n progress.now) result.waits (urgent_of result.urgent) result.stay (map one_more result.go) }
+    ensures { Ahead (row_tasks n rows.now) slot (take n progress.now) result.waits (urgent_of result.urgent) stay.new (map one_more go.new) }
 {
     let mut waits: u16 = 0;
     let mut urgent = Urgent::Nobody;
-    let mut stay = [0; 8];
-    let mut go = [None; 8];
     for i in (0..n).rev() {
         let way = ways_of(&rows[i], slot, progress[i]);
         stay[i] = way.stay;
@@ -123,8 +126,6 @@ pub(crate) fn look_ahead(rows: &[Timed; 8], n: usize, slot: u16, progress: &[u16
     Outlook {
         waits: waits as u8,
         urgent,
-        stay,
-        go,
     }
 }
 

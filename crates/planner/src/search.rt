@@ -97,15 +97,17 @@ fn lead_on(
 {
     let slot = at.slot;
     let recorded = at.recorded;
-    let ahead = look_ahead(rows, n, slot, &at.progress);
-    let mut stay = ahead.stay;
+    let progress = at.progress;
+    let mut stay = [0; 8];
+    let mut go = [None; 8];
+    let ahead = look_ahead(rows, n, slot, &progress, &mut stay, &mut go);
     let task = first_task(
         n,
         choice,
         ahead.urgent,
         slot + 1,
         recorded,
-        &ahead.go,
+        &go,
         &mut stay,
         area,
     );

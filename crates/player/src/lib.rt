@@ -7,6 +7,7 @@ pub mod begin;
 pub mod codec;
 pub mod form;
 pub mod round;
+pub mod strings;
 pub mod turn;
 
 ghost use Rattle.std.specs.Prelude.{◌≡◌, true};
