@@ -1,17 +1,21 @@
 -- Laws of a list read from C, in the code's terms, and how far a refused line can stand.
-use mathlib.Core.Path.{◌≡◌, refl, sym, ap, ◌∙◌}
+use mathlib.Core.Path.{◌≡◌, refl, sym, ap}
 use mathlib.Core.Bool.{Bool, true, false, cond}
 use mathlib.Core.List.{List, [], ◌∷◌, ◌++◌}
 use Prim.Native.Nat.{ℕ, zero, suc, ◌+◌, ◌*◌, ◌≤◌, ◌<◌}
 use native.Mathlib.Omega.{arith}
-use lib.Dec.{leb, ltb}
+use lib.Dec.{ltb}
 use lib.ListN.{length, drop}
 use borrow.Author.Tests.{ne_eqb, le-leb, lt-leb}
 use Rattle.rules.specs.Lists.{is_zero}
 use Rattle.rules.specs.Hyper.{hyper}
 use Rattle.rules.specs.Records.{TaskRecord, or_else, tasks_in}
 use Rattle.tasks.specs.Views.{record_of}
-use Rattle.list.specs.declared.Reading.{Reading}
+use Rattle.std.specs.Prelude.{Ok, Err}
+use Rattle.tasks.specs.declared.TaskSet.{TaskSet}
+use Rattle.tasks.proofs.Refusals.{number-some}
+use Rattle.tasks.specs.Refusals.{number_of}
+use Rattle.list.specs.declared.Refused.{Refused}
 use Rattle.list.specs.Text.{ends_line, onto, lines}
 use Rattle.list.specs.Reading.{ReadReply, line_task, refused_whole, refused_line, accepted, finish, read_from, read_list, reply_of}
 use Rattle.list.proofs.Meaning.Reader.{read_step, list-step}
@@ -29,29 +33,40 @@ module _ (bs o : List ℕ) where
   unfolding read_buffer
   refuses k e = rw (e, ne_eqb (suc k) 0 (λ z. omega arith)) (refl, refl)
 
-  -- the list was read
-  module _ (r : Reading) (er : reply_of r ≡ read_list bs) where
-    refusal_is : r.refusal ≡ (read_list bs).refusal
-    unfolding reply_of
-    refusal_is = ap (λ (a : ReadReply). a.refusal) er
+  -- the list was refused
+  pub read-refused : (e : Refused) → reply_of (Err e) ≡ read_list bs → Listed (number_of e.why) o
+  unfolding read_number reply_of or_else
+  read-refused e er = go (number_of e.why) refl
+    where
+      go : (k : ℕ) → number_of e.why ≡ k → Listed k o
+      go zero q = absurd (number-some e.why q)
+      go (suc k) q = refuses k (rw (← er, q) refl)
 
-    pub read-refused : (r.refusal ≡ 0 → ⊥) → Listed r.refusal o
-    unfolding read_number or_else
-    read-refused h = go r.refusal refusal_is h
-      where
-        go : (k : ℕ) → k ≡ (read_list bs).refusal → (k ≡ 0 → ⊥) → Listed k o
-        go zero e h = absurd (h refl)
-        go (suc k) e h = refuses k (rw (← e) refl)
+  pub number-refused : (e : Refused) → reply_of (Err e) ≡ read_list bs → read_number bs o ≡ number_of e.why
+  number-refused e er = sym (read-refused e er).0
 
-    -- it was accepted
-    module _ (ok : r.refusal ≡ 0) where
-      pub read_short : length o < 97 → Listed 8 o
-      unfolding read_number or_else set_size
-      read_short h = refuses 7 (rw (sym refusal_is ∙ ok, lt-leb 97 (length o) h) refl)
+  pub buffer-refused : (e : Refused) → reply_of (Err e) ≡ read_list bs → read_buffer bs o ≡ o
+  buffer-refused e er = sym (read-refused e er).1
 
-      pub read_done : (out : List ℕ) → 97 ≤ length o → out ≡ cond (leb 97 (length o)) (set_bytes (record_of r.set) ++ drop 97 o) o → Listed 0 out
-      unfolding read_number read_buffer or_else set_size reply_of
-      read_done out h e = rw (sym refusal_is ∙ ok, le-leb 97 (length o) h) (refl, (rw (le-leb 97 (length o) h) at e) ∙ ap (λ (a : ReadReply). set_bytes a.set ++ drop 97 o) er)
+  -- it was accepted
+  module _ (s : TaskSet) (er : reply_of (Ok s) ≡ read_list bs) where
+    pub number-short : length o < 97 → read_number bs o ≡ 8
+    unfolding read_number or_else set_size reply_of
+    number-short h = rw (← er, lt-leb 97 (length o) h) refl
+
+    pub buffer-short : length o < 97 → read_buffer bs o ≡ o
+    unfolding read_buffer
+    buffer-short h = rw (number-short h) refl
+
+    pub number-done : 97 ≤ length o → read_number bs o ≡ 0
+    unfolding read_number or_else set_size reply_of
+    number-done h = rw (← er, le-leb 97 (length o) h) refl
+
+    pub buffer-done : 97 ≤ length o → read_buffer bs o ≡ set_bytes (record_of s) ++ drop 97 o
+    unfolding read_buffer set_size reply_of
+    buffer-done h = rw (number-done h, ← er) refl
+
+pub ruleset read_laws = (number-refused, buffer-refused, number-short, buffer-short, number-done, buffer-done)
 
 -- ── where a refused line stands ─────────────────────────────────────────────
 
@@ -105,20 +120,29 @@ list-near bs = list-step (Near 1 0 4097) bs
     (λ _. whole-near 1 1 0 4097)
     (λ h. let t = lines-total bs in wider 1 0 (total (lines bs)) 1 0 4097 _ (from-near (lines bs) 1 0 []) (omega arith) (omega arith) (omega arith))
 
-module _ (bs : List ℕ) (r : Reading) (er : reply_of r ≡ read_list bs) where
-  -- the three numbers are small
-  pub placed : (r.line ≤ 4098) × (r.start ≤ 4097) × (r.size ≤ 4097)
-  unfolding reply_of
-  placed =
-      let N = list-near bs in
-      let a = N.line in
-      let b = N.start in
-      let c = N.size in
-      let p : r.line ≡ (read_list bs).line = ap (λ (x : ReadReply). x.line) er in
-      let q : r.start ≡ (read_list bs).start = ap (λ (x : ReadReply). x.start) er in
-      let s : r.size ≡ (read_list bs).size = ap (λ (x : ReadReply). x.size) er in
-      (omega arith, omega arith, omega arith)
+module _ (bs : List ℕ) (e : Refused) (er : reply_of (Err e) ≡ read_list bs) where
+  near : Near 1 0 4097 (reply_of (Err e))
+  near = rw er (list-near bs)
 
-  pub place_is : r.line * 4294967296 + r.start * 65536 + r.size ≡ place_number (read_list bs)
+  -- the three numbers are small
+  pub line-small : e.line ≤ 4098
+  unfolding reply_of
+  line-small = near.line
+
+  pub start-small : e.start ≤ 4097
+  unfolding reply_of
+  start-small = near.start
+
+  pub size-small : length e.text.now ≤ 4097
+  unfolding reply_of
+  size-small = near.size
+
+  pub place-refused : place_number (read_list bs) ≡ e.line * 4294967296 + e.start * 65536 + length e.text.now
   unfolding place_number reply_of
-  place_is = ap place_number er
+  place-refused = ap place_number (sym er)
+
+pub place-none : (bs : List ℕ) (s : TaskSet) → reply_of (Ok s) ≡ read_list bs → place_number (read_list bs) ≡ 0
+unfolding place_number reply_of
+place-none bs s e = ap place_number (sym e)
+
+pub ruleset place_laws = (line-small, start-small, size-small, place-refused, place-none)

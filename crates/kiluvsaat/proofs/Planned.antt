@@ -8,18 +8,21 @@ use lib.Seq.{take_at}
 use borrow.Author.Tests.{eq-eqb, ne_eqb}
 use Rattle.rules.specs.Hyper.{hyper}
 use Rattle.rules.specs.Records.{SetRecord, Arrays, or_else, set_in, record_refusal}
-use Rattle.rules.specs.Planner.{PlanReply}
 use Rattle.rules.proofs.Set.Multiple.{hyper-pos}
 use Rattle.rules.proofs.Set.Tidy.{set-fit}
+use Rattle.std.specs.Prelude.{Result, Ok, Err, IfOk, IfErr}
+use Rattle.std.specs.Result.{result_unwrap_or}
 use Rattle.tasks.specs.declared.TaskSet.{TaskSet}
-use Rattle.tasks.specs.Views.{record_of, set_of, bounded}
+use Rattle.tasks.specs.Views.{record_of, set_of}
+use Rattle.tasks.specs.declared.refusal.Refusal.{Refusal}
+use Rattle.tasks.proofs.Refusals.{number-some}
+use Rattle.tasks.specs.Refusals.{number_of}
+use Rattle.planner.specs.declared.Answer.{Answer}
+use Rattle.planner.specs.Views.{word_of, answer_of}
+use Rattle.rules.specs.Planner as model
+use Rattle.rules.specs.Planner.{PlanReply}
 use Rattle.list.specs.Reading.{read_list}
 use Rattle.list.proofs.Promises.{read-admissible}
-use Rattle.planner.specs.declared.Word.{Word}
-use Rattle.planner.specs.declared.Answer.{Answer}
-use Rattle.planner.specs.declared.Answer.TheVariants.{Refused, Answered}
-use Rattle.planner.specs.Views.{word_of, answer_of}
-use Rattle.planner.proofs.Replies.{period-is}
 use Rattle.player.specs.Bytes.{set_size, set_bytes, set_at}
 use Rattle.kiluvsaat.specs.Plans.{read_number, read_buffer, slots_number, word_number, plan_number, plan_count, PlanCall, no_set, replied}
 use Rattle.player.proofs.Sizes.{set-size}
@@ -28,22 +31,23 @@ use Rattle.player.proofs.Inverse.{set_back}
 -- ── the slots of a set ──────────────────────────────────────────────────────
 
 module _ (bs : List ℕ) where
-  pub slots_length : (length bs ≡ 97 → ⊥) → 0 ≡ slots_number bs
+  pub slots_length : (length bs ≡ 97 → ⊥) → slots_number bs ≡ 0
   unfolding slots_number set_size
   slots_length h = rw (ne_eqb (length bs) 97 h) refl
 
   -- the set was read, and judged
-  module _ (sized : length bs ≡ 97) (s : TaskSet) (es : record_of s ≡ set_at bs) (x : ℕ) (refusal : x ≡ record_refusal (record_of s)) where
-    refusal_is : x ≡ record_refusal (set_at bs)
-    refusal_is = refusal ∙ ap record_refusal es
-
-    pub slots-refused : (x ≡ 0 → ⊥) → 0 ≡ slots_number bs
+  module _ (sized : length bs ≡ 97) (s : TaskSet) (es : record_of s ≡ set_at bs) where
+    slots-refused : (r : Refusal) → record_refusal (record_of s) ≡ number_of r → 0 ≡ slots_number bs
     unfolding slots_number set_size
-    slots-refused n = rw (eq-eqb (length bs) 97 sized, ne_eqb (record_refusal (set_at bs)) 0 (λ e. n (refusal_is ∙ e))) refl
+    slots-refused r e = rw (eq-eqb (length bs) 97 sized, ne_eqb (record_refusal (set_at bs)) 0 (λ z. number-some r (sym e ∙ ap record_refusal es ∙ z))) refl
 
-    pub slots-done : (h : ℕ) → h ≡ bounded (hyper (set_of s)) → x ≡ 0 → h ≡ slots_number bs
+    slots-done : (h : ℕ) → record_refusal (record_of s) ≡ 0 → h ≡ hyper (set_of s) → h ≡ slots_number bs
     unfolding slots_number set_size set_of
-    slots-done h period ok = rw (eq-eqb (length bs) 97 sized, eq-eqb (record_refusal (set_at bs)) 0 (sym refusal_is ∙ ok)) (period-is s [] [] x refusal h period ok ∙ ap (λ r. hyper (set_in r)) es)
+    slots-done h ok e = rw (eq-eqb (length bs) 97 sized, eq-eqb (record_refusal (set_at bs)) 0 (sym (ap record_refusal es) ∙ ok)) (e ∙ ap (λ r. hyper (set_in r)) es)
+
+    pub slots-is : (r : Result ℕ Refusal) → IfOk r (λ h. (record_refusal (record_of s) ≡ 0) × (h ≡ hyper (set_of s))) → IfErr r (λ e. record_refusal (record_of s) ≡ number_of e) → slots_number bs ≡ result_unwrap_or r 0
+    slots-is (Ok h) admitted refused = sym (slots-done h admitted.0 admitted.1)
+    slots-is (Err e) admitted refused = sym (slots-refused e refused)
 
 -- the string of an admissible set has slots
 some-slots : (r : SetRecord) → Arrays r → record_refusal r ≡ 0 → 1 ≤ slots_number (set_bytes r)
@@ -78,15 +82,17 @@ module _ (bs t a : List ℕ) (k : ℕ) where
   plan-length h = no_set h
 
   -- the set was read, and the planner replied
-  module _ (sized : length bs ≡ 97) (s : TaskSet) (es : record_of s ≡ set_at bs) (x : Answer) (t' a' : List ℕ) (er : PlanReply (record_of s) t a (answer_of x) t' a') where
-    reply : PlanCall bs t a k (plan_number (answer_of x)) t' a' (plan_count (answer_of x) k)
+  module _ (sized : length bs ≡ 97) (s : TaskSet) (es : record_of s ≡ set_at bs) (t' a' : List ℕ) where
+    reply : (x : model.Answer) → PlanReply (record_of s) t a x t' a' → PlanCall bs t a k (plan_number x) t' a' (plan_count x k)
     unfolding set_size
-    reply = replied {a = answer_of x} sized (subst (λ r. PlanReply r t a (answer_of x) t' a') es er)
+    reply x er = replied {a = x} sized (subst (λ r. PlanReply r t a x t' a') es er)
 
-    pub plan-refused : (n : ℕ) → x ≡ Refused n → PlanCall bs t a k n t' a' k
+    pub plan-refused : (r : Refusal) → PlanReply (record_of s) t a (answer_of (Err r)) t' a' → PlanCall bs t a k (number_of r) t' a' k
     unfolding plan_number plan_count answer_of
-    plan-refused n e = rw e at reply
+    plan-refused r er = reply (answer_of (Err r)) er
 
-    pub plan-answered : (w : Word) (d : ℕ) → x ≡ Answered w d → (n : ℕ) → n ≡ word_number (word_of w) → PlanCall bs t a k n t' a' d
+    pub plan-answered : (x : Answer) (n : ℕ) → n ≡ word_number (word_of x.word) → PlanReply (record_of s) t a (answer_of (Ok x)) t' a' → PlanCall bs t a k n t' a' x.dead
     unfolding plan_number plan_count answer_of
-    plan-answered w d e n q = rw q (rw e at reply)
+    plan-answered x n q er = rw q (reply (answer_of (Ok x)) er)
+
+pub ruleset plan_laws = (plan-length, plan-refused, plan-answered)

@@ -5,58 +5,62 @@ ghost use Rattle.planner.specs.Views.{word_of};
 ghost use Rattle.kiluvsaat.specs.Plans.{read_number, read_buffer, place_number, slots_number, word_number, PlanCall};
 
 use list::read;
-use planner::{Answer, Word, plan};
-use player::codec::{set_in, write_set};
-use tasks::set::judge;
+use planner::{Word, plan};
+use player::codec::{SET_SIZE, set_from_bytes, set_to_bytes};
+use tasks::Refusal;
+
+// What one line, and one byte of its start, count in a refused line's place.
+const LINE: u64 = 1 << 32;
+
+const START: u64 = 1 << 16;
 
 // A list read: the refusal, or 0 with the task set at the start of `set`.
+#[tactic(auto, using(crate::proofs::Listed::read_laws))]
 #[unsafe(no_mangle)]
 pub extern "C" fn kiluvsaat_read(list: &[u8], set: &mut [u8]) -> u8
     ensures number { result ≡ read_number list.now set.old }
     ensures buffer { set.new ≡ read_buffer list.now set.old }
 {
-    let reply = read(list);
-    let refusal = reply.refusal;
-    if refusal != 0 {
-        return refusal;
-    }
-    if set.len() < 97 {
-        return 8;
-    }
-    let found = reply.set;
-    write_set(found, set);
+    let found = match read(list) {
+        Ok(found) => found,
+        Err(refused) => return refused.why.into(),
+    };
+    let Some(place) = set.first_chunk_mut::<SET_SIZE>() else {
+        return Refusal::ShortBuffer.into();
+    };
+    *place = set_to_bytes(&found);
     0
 }
 
 // Where the refused line of a list stands: its number from bit 32 on, its start from bit 16 on, and its size. 0 where no line is refused.
+#[tactic(auto, using(crate::proofs::Listed::place_laws))]
 #[unsafe(no_mangle)]
 pub extern "C" fn kiluvsaat_refused_line(list: &[u8]) -> u64
     ensures { result ≡ place_number (read_list list.now) }
 {
-    let reply = read(list);
-    let line = reply.line as u64;
-    let start = reply.start as u64;
-    let size = reply.size as u64;
-    line * 4294967296 + start * 65536 + size
+    let Err(refused) = read(list) else {
+        return 0;
+    };
+    let line = refused.line as u64;
+    let start = refused.start as u64;
+    let size = refused.text.len() as u64;
+    line * LINE + start * START + size
 }
 
 // The slots of a task set's table: its hyper-period, 0 for a set that is refused or a string of another length.
+#[tactic(auto, using(crate::proofs::Planned::slots_length))]
 #[unsafe(no_mangle)]
 pub extern "C" fn kiluvsaat_slots(set: &[u8]) -> u16
     ensures { result ≡ slots_number set.now }
 {
-    if set.len() != 97 {
-        return 0;
+    match set.as_array::<SET_SIZE>() {
+        Some(held) => set_from_bytes(held).admit().unwrap_or(0),
+        None => 0,
     }
-    let handed = set_in(set);
-    let judged = judge(handed);
-    if judged.refusal != 0 {
-        return 0;
-    }
-    judged.hyper
 }
 
 // The number of a word.
+#[tactic(auto, unfolding(planner::specs::Views::word_of, crate::specs::Plans::word_number))]
 fn word_number(word: Word) -> u8
     ensures { result ≡ word_number (word_of word) }
 {
@@ -69,6 +73,7 @@ fn word_number(word: Word) -> u8
 
 // A plan: the refusal, or the word's number with the count of dead positions in `count`. The first slots of `table` hold the schedule, and
 // `area` the dead positions.
+#[tactic(auto, using(crate::proofs::Planned::plan_laws))]
 #[unsafe(no_mangle)]
 pub extern "C" fn kiluvsaat_plan(
     set: &[u8],
@@ -78,16 +83,14 @@ pub extern "C" fn kiluvsaat_plan(
 ) -> u8
     ensures { PlanCall set.now table.old area.old count.old result table.new area.new count.new }
 {
-    if set.len() != 97 {
-        return 5;
-    }
-    let handed = set_in(set);
-    let answer = plan(handed, table, area);
-    match answer {
-        Answer::Refused(n) => n,
-        Answer::Answered(word, dead) => {
-            *count = dead as u64;
-            word_number(word)
+    let Some(held) = set.as_array::<SET_SIZE>() else {
+        return Refusal::TaskCount.into();
+    };
+    match plan(&set_from_bytes(held), table, area) {
+        Ok(answer) => {
+            *count = answer.dead as u64;
+            word_number(answer.word)
         }
+        Err(refusal) => refusal.into(),
     }
 }

@@ -26,10 +26,11 @@ fn field(line: &[u8], numbers: Numbers, digits: Digits) -> Option<Numbers>
 fn gap(line: &[u8], numbers: Numbers) -> Option<Numbers>
     ensures { (ws : List (List ℕ)) → Some (numbers_of numbers) ≡ fields_of ws → numbers_in result ≡ fields_of (ws ++ words line.now) }
 {
-    match field_start(line) {
-        None => Some(numbers),
-        Some(at) => field(&line[at + 1..], numbers, Digits::new().with(line[at])?),
-    }
+    let Some(at) = field_start(line) else {
+        return Some(numbers);
+    };
+    let digits = Digits::new().with(line[at])?;
+    field(&line[at + 1..], numbers, digits)
 }
 
 // The fields of a whole line, if each word is one and there are nine at most.

@@ -48,7 +48,7 @@ impl From<Refusal> for Refused<'_> {
 // The set that has read `rs`, with one task more.
 #[tactic(auto, using(crate::proofs::Sets::set_more))]
 fn with_task(set: TaskSet, task: Task) -> TaskSet
-    requires { set.count < 8 }
+    requires { set.count < MOST_TASKS }
     ensures { (rs : List TaskRecord) → record_of set ≡ (accepted rs).set → record_of result ≡ (accepted (rs ++ entry_of task ∷ [])).set }
 {
     let mut more = set;

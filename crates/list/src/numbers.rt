@@ -41,7 +41,7 @@ impl Digits {
     }
 }
 
-// The numbers of a line's fields, at most nine.
+// The numbers of a line's fields, at most nine: a buffer with a count, since nothing here uses the heap.
 #[derive(Clone, Copy, Debug, PartialEq, Eq)]
 pub struct Numbers {
     count: usize,

@@ -1,15 +1,15 @@
 -- What a slot does to a task in the code's terms, and what the look ahead keeps, from the last task down.
-use mathlib.Core.Path.{◌≡◌, refl, sym, ◌∙◌}
+use mathlib.Core.Path.{◌≡◌, refl, sym, ap, ◌∙◌}
 use mathlib.Core.Logic.{◌⊎◌, inl, inr}
 use mathlib.Core.Bool.{Bool, true, false, not, cond}
 use mathlib.Core.List.{List, map}
-use Rattle.std.specs.Prelude.{Option}
-use Prim.Native.Nat.{ℕ, suc, ◌+◌, ◌-◌, ◌*◌, ◌%◌, ◌≤◌, ◌<◌}
+use Rattle.std.specs.Prelude.{Option, None}
+use Prim.Native.Nat.{ℕ, zero, suc, ◌+◌, ◌-◌, ◌*◌, ◌%◌, ◌≤◌, ◌<◌}
 use native.Mathlib.Numerals.{add-one}
 use native.Mathlib.Omega.{arith}
-use borrow.Author.Tests.{eq-eqb, ne_eqb}
+use borrow.Author.Tests.{ne_eqb, not-true, not-false}
 use lib.Dec.{eqb}
-use mir.Syntax.{w8, w16}
+use mir.Syntax.{w16}
 use mir.Val.{Fits, bool_byte}
 use lib.ListN.{length-map, length, get_or, take, drop, set, length-set, length-drop, drop_of_length-le}
 use lib.Seq.{map-set, drop-cons, length-take-le, get_or-take, get_or-set_same, get_or-set_other}
@@ -28,9 +28,7 @@ use Rattle.planner.specs.Marks.{mark}
 use Rattle.tasks.specs.Slots.{onward, well_at, well_after}
 use Rattle.tasks.specs.Timed.{timed_task}
 use Rattle.tasks.proofs.Timing.{well-after}
-use Rattle.planner.specs.declared.ahead.Urgent.{Urgent}
-use Rattle.planner.specs.declared.ahead.Urgent.TheVariants.{Nobody, Only, Several}
-use Rattle.planner.specs.Ahead.{stayed, gone, claim, claimed, one_more, urgent_of, IsWay, Ahead}
+use Rattle.planner.specs.Ahead.{stayed, gone, claim, claimed, one_more, urgent_in, IsWay, Ahead}
 use Rattle.planner.proofs.Marks.{mark-byte}
 use Rattle.planner.proofs.Places.{rows-length, row_at, row_is}
 
@@ -58,35 +56,33 @@ module _ (t : ℕ) (τ : Task) (p since : ℕ) (k : code.Standing) (stands : sta
   unfolding onward
   onward-at q = rw (e, starts-full t τ)
 
-  pub way-ready : k ≡ Ready → (well : Bool) → well ≡ well_at since τ p → (stay : ℕ) → stay ≡ cond (eqb since τ.period) 0 p
-      → (go : ℕ) → go ≡ cond (well_at since τ (p + 1)) (suc (cond (eqb since τ.period) 0 (p + 1))) 0 → IsWay t τ p false well stay go
+  -- where its progress and, if it is chosen, that in the next slot are such a pair
+  abbrev pub Turned : ℕ × Option ℕ → Type 0
+  Turned turned = (turned.0 ≡ stayed τ p) × (one_more turned.1 ≡ gone t τ p)
+
+  pub turned-ready : k ≡ Ready → (turned : ℕ × Option ℕ) (go : Option ℕ) → turned ≡ (p, go)
+      → one_more go ≡ cond (well_at since τ (p + 1)) (suc (cond (eqb since τ.period) 0 (p + 1))) 0 → Turned turned
   unfolding stayed moved gone is_ready standing_of
-  way-ready h well w stay f go g = record {
-    rising = rw (← stands, h, eq-eqb p p refl);
-    ending = rw (← stands, h) (w ∙ well-at p);
-    staying = rw (← stands, h) (f ∙ onward-at p);
-    going = rw (← stands, h, ← add-one p) (g ∙ rw (well-at (p + 1), onward-at (p + 1)));
+  turned-ready h turned go f g = rw f (rw (← stands, h, ← add-one p) (refl, g ∙ rw (well-at (p + 1), onward-at (p + 1))))
+
+  pub turned-waiting : k ≡ Waiting → (turned : ℕ × Option ℕ) → turned ≡ (p + 1, None) → Turned turned
+  unfolding stayed moved gone is_ready standing_of
+  turned-waiting h turned f = rw f (rw (← stands, h) (add-one p, refl))
+
+  pub turned-done : k ≡ Done → (turned : ℕ × Option ℕ) → turned ≡ (p, None) → Turned turned
+  unfolding stayed moved gone is_ready standing_of
+  turned-done h turned f = rw f (rw (← stands, h) (refl, refl))
+
+  pub way-is : (turned : ℕ × Option ℕ) → Turned turned → (well : Bool) → well ≡ well_at since τ turned.0 → (stay : ℕ) → stay ≡ cond (eqb since τ.period) 0 turned.0
+      → IsWay t τ p (not (eqb p turned.0)) well stay (one_more turned.1)
+  way-is turned e well w stay f = record {
+    rising = ap (λ q. not (eqb p q)) e.0;
+    ending = w ∙ well-at turned.0 ∙ ap (well_after t τ) e.0;
+    staying = f ∙ onward-at turned.0 ∙ ap (onward t τ) e.0;
+    going = e.1;
   }
 
-  pub way-waiting : k ≡ Waiting → (well : Bool) → well ≡ well_at since τ (p + 1) → (stay : ℕ) → stay ≡ cond (eqb since τ.period) 0 (p + 1) → IsWay t τ p true well stay 0
-  unfolding stayed moved gone is_ready standing_of
-  way-waiting h well w stay f = record {
-    rising = rw (← stands, h, ne_eqb p (suc p) (λ z. omega arith));
-    ending = rw (← stands, h, ← add-one p) (w ∙ well-at (p + 1));
-    staying = rw (← stands, h, ← add-one p) (f ∙ onward-at (p + 1));
-    going = rw (← stands, h);
-  }
-
-  pub way-done : k ≡ Done → (well : Bool) → well ≡ well_at since τ p → (stay : ℕ) → stay ≡ cond (eqb since τ.period) 0 p → IsWay t τ p false well stay 0
-  unfolding stayed moved gone is_ready standing_of
-  way-done h well w stay f = record {
-    rising = rw (← stands, h, eq-eqb p p refl);
-    ending = rw (← stands, h) (w ∙ well-at p);
-    staying = rw (← stands, h) (f ∙ onward-at p);
-    going = rw (← stands, h);
-  }
-
-pub ruleset way_laws = (below-ready, below_waiting, way-ready, way-waiting, way-done)
+pub ruleset way_laws = (below-ready, below_waiting)
 
 -- ── the look ahead ──────────────────────────────────────────────────────────
 
@@ -94,6 +90,18 @@ pub ruleset way_laws = (below-ready, below_waiting, way-ready, way-waiting, way-
 bit_is : (b : Bool) → ◌≡◌ {A = ℕ} (cond (not b) 1 0) (cond b 0 1)
 bit_is true = refl
 bit_is false = refl
+
+-- one more task that does not end the slot well unchosen
+claim-late : (late first i : ℕ) → first ≤ 255 → urgent_in (suc late) i ≡ claim (urgent_in late first) false i
+unfolding urgent_in claim
+claim-late zero first i h = refl
+claim-late (suc zero) first i h = rw (ne_eqb first 256 (λ z. omega arith))
+claim-late (suc (suc late)) first i h =
+    let a = ne_eqb (suc (suc (suc late))) 0 (λ z. let y : ⊥ = omega arith in y) in
+    let b = ne_eqb (suc (suc (suc late))) 1 (λ z. let y : ⊥ = omega arith in y) in
+    let c = ne_eqb (suc (suc late)) 0 (λ z. let y : ⊥ = omega arith in y) in
+    let d = ne_eqb (suc (suc late)) 1 (λ z. let y : ⊥ = omega arith in y) in
+    rw (a, b, c, d)
 
 bit_put : (m : ℕ) (b : Bool) → m * 2 + bool_byte b ≡ cond b 1 0 + 2 * m
 bit_put m true = omega arith
@@ -107,7 +115,7 @@ module _ (n : ℕ) (rows : List Timed) (progress : List ℕ) (slot : ℕ) where
   now_of = take n progress
 
   -- the tasks from place i on are looked at
-  pub record Looked (i waits urgent : ℕ) (stay : List ℕ) (go : List (Option ℕ)) : Type 0 where
+  pub record Looked (i waits late first : ℕ) (stay : List ℕ) (go : List (Option ℕ)) : Type 0 where
     pub few : i ≤ n
     pub laid : Laid n rows
     pub eights : length rows ≡ 8
@@ -116,13 +124,15 @@ module _ (n : ℕ) (rows : List Timed) (progress : List ℕ) (slot : ℕ) where
     pub long' : length go ≡ 8
     pub small : waits ≤ 255
     pub rising : waits ≡ mark (drop i now_of) (drop i (ended set-of now_of idle))
-    pub claims : urgent ≡ claimed slot i (drop i set-of) (drop i now_of)
+    pub counted : late + i ≤ n
+    pub byte : first ≤ 255
+    pub claims : urgent_in late first ≡ claimed slot i (drop i set-of) (drop i now_of)
     pub kept : (j : ℕ) → j < i → get_or stay j 0 ≡ get_or progress j 0
     pub staying : (j : ℕ) → i ≤ j → j < n → get_or stay j 0 ≡ onward slot (get_or set-of j no_task) (stayed (get_or set-of j no_task) (get_or now_of j 0))
     pub going : (j : ℕ) → i ≤ j → j < n → get_or (map one_more go) j 0 ≡ gone slot (get_or set-of j no_task) (get_or now_of j 0)
 
-  pub looked-start : (go : List (Option ℕ)) → Laid n rows → length rows ≡ 8 → length progress ≡ 8 → length go ≡ 8 → Looked n 0 256 progress go
-  unfolding mark claimed
+  pub looked-start : (go : List (Option ℕ)) → Laid n rows → length rows ≡ 8 → length progress ≡ 8 → length go ≡ 8 → Looked n 0 0 0 progress go
+  unfolding mark claimed urgent_in
   looked-start go laid r e g =
       let few = laid.few in
       let l : length now_of ≡ n = length-take-le n progress (omega arith) in
@@ -136,6 +146,8 @@ module _ (n : ℕ) (rows : List Timed) (progress : List ℕ) (slot : ℕ) where
         long' = g;
         small = omega arith;
         rising = rw (drop_of_length-le now_of {i = n} (omega arith));
+        counted = omega arith;
+        byte = omega arith;
         claims = rw (drop_of_length-le set-of {i = n} (omega arith));
         kept = λ j h. refl;
         staying = λ j h k. let z : ⊥ = omega arith in absurd z;
@@ -189,10 +201,10 @@ module _ (n : ℕ) (rows : List Timed) (progress : List ℕ) (slot : ℕ) where
       go (inl c) = get_or-set_other l k j v 0 (λ z. omega arith) ∙ rest j c b
       go (inr c) = let z : j ≡ k = omega arith in rw z (get_or-set_same l k v 0 h ∙ e)
 
-  step : (k waits urgent : ℕ) (stay : List ℕ) (go : List (Option ℕ)) (rises well : Bool) (st : ℕ) (g : Option ℕ) (w u : ℕ) → Looked (suc k) waits urgent stay go
-      → IsWay slot (task_at rows k) (get_or progress k 0) rises well st (one_more g) → w ≡ cond rises 1 0 + 2 * waits → u ≡ claim urgent well k
-      → Looked k w u (set stay k st) (set go k g)
-  step k waits urgent stay go rises well st g w u v way x y =
+  step : (k waits late first : ℕ) (stay : List ℕ) (go : List (Option ℕ)) (rises well : Bool) (st : ℕ) (g : Option ℕ) (w u f : ℕ) → Looked (suc k) waits late first stay go
+      → IsWay slot (task_at rows k) (get_or progress k 0) rises well st (one_more g) → w ≡ cond rises 1 0 + 2 * waits
+      → (u + k ≤ n) × (f ≤ 255) × (urgent_in u f ≡ claim (urgent_in late first) well k) → Looked k w u f (set stay k st) (set go k g)
+  step k waits late first stay go rises well st g w u f v way x y =
       let few = v.few in
       let long = v.long in
       let long' = v.long' in
@@ -212,49 +224,58 @@ module _ (n : ℕ) (rows : List Timed) (progress : List ℕ) (slot : ℕ) where
         long' = length-set go k g ∙ v.long';
         small = let n = mark-byte (drop k now_of) (drop k (ended set-of now_of idle)) (omega (arith, length-drop k now_of)) in omega arith;
         rising = m;
-        claims = y ∙ rw (way.ending, v.claims) (sym (claimed-at k h most v.eight));
+        counted = y.0;
+        byte = y.1;
+        claims = y.2 ∙ rw (way.ending, v.claims) (sym (claimed-at k h most v.eight));
         kept = λ j a. get_or-set_other stay k j st 0 (λ z. omega arith) ∙ v.kept j (omega arith);
         staying = written (λ j. onward slot (get_or set-of j no_task) (stayed (get_or set-of j no_task) (get_or now_of j 0))) stay k st (omega arith) (rw (r, q) way.staying) v.staying;
         going = rw (map-set one_more go k g) (written (λ j. gone slot (get_or set-of j no_task) (get_or now_of j 0)) (map one_more go) k (one_more g) (omega (arith, length-map go one_more)) (rw (r, q) way.going) v.going);
       }
 
-  pub looked-step : (i waits urgent : ℕ) (stay : List ℕ) (go : List (Option ℕ)) → Looked i waits urgent stay go → 0 < i
-      → (r : Timed) (rises well : Bool) (st : ℕ) (g : Option ℕ) → IsWay slot (timed_task (get_or rows (i - 1) r)) (get_or stay (i - 1) 0) rises well st (one_more g)
-      → (u : ℕ) → u ≡ claim urgent well (i - 1) → Looked (i - 1) (waits * 2 + bool_byte rises) u (set stay (i - 1) st) (set go (i - 1) g)
-  looked-step i waits urgent stay go v h r rises well st g way u y =
-      let z : i ≡ suc (i - 1) = omega arith in
-      let few = v.few in
-      let m = v.laid.few in
-      let l = v.eights in
-      step (i - 1) waits urgent stay go rises well st g (waits * 2 + bool_byte rises) u (rw z at v) (rw (row_is rows (i - 1) r (omega arith), v.kept (i - 1) (omega arith)) at way) (bit_put waits rises) y
+  module _ (i waits late first : ℕ) (stay : List ℕ) (go : List (Option ℕ)) (v : Looked i waits late first stay go) (h : 0 < i)
+      (r : Timed) (rises well : Bool) (st : ℕ) (g : Option ℕ) (way : IsWay slot (timed_task (get_or rows (i - 1) r)) (get_or stay (i - 1) 0) rises well st (one_more g)) where
+    stepped : (u f : ℕ) → (u + (i - 1) ≤ n) × (f ≤ 255) × (urgent_in u f ≡ claim (urgent_in late first) well (i - 1))
+        → Looked (i - 1) (waits * 2 + bool_byte rises) u f (set stay (i - 1) st) (set go (i - 1) g)
+    stepped u f y =
+        let z : i ≡ suc (i - 1) = omega arith in
+        let few = v.few in
+        let m = v.laid.few in
+        let l = v.eights in
+        step (i - 1) waits late first stay go rises well st g (waits * 2 + bool_byte rises) u f (rw z at v) (rw (row_is rows (i - 1) r (omega arith), v.kept (i - 1) (omega arith)) at way) (bit_put waits rises) y
 
-  pub looked-end : (i waits urgent : ℕ) (stay : List ℕ) (go : List (Option ℕ)) → Looked i waits urgent stay go → i ≤ 0 → Ahead set-of slot now_of waits urgent stay (map one_more go)
-  looked-end i waits urgent stay go v h =
+    pub looked-late : not well ≡ true → Looked (i - 1) (waits * 2 + bool_byte rises) (late + 1) (i - 1) (set stay (i - 1) st) (set go (i - 1) g)
+    looked-late e =
+        let few = v.few in let m = v.laid.few in let k = v.counted in
+        stepped (late + 1) (i - 1) (omega arith, omega arith, rw (not-true well e, add-one late) (claim-late late first (i - 1) v.byte))
+
+    pub looked-well : not well ≡ false → Looked (i - 1) (waits * 2 + bool_byte rises) late first (set stay (i - 1) st) (set go (i - 1) g)
+    unfolding claim
+    looked-well e = let k = v.counted in stepped late first (omega arith, v.byte, rw (not-false well e))
+
+  pub looked-end : (i waits late first : ℕ) (stay : List ℕ) (go : List (Option ℕ)) (u : ℕ) → Looked i waits late first stay go → i ≤ 0 → u ≡ urgent_in late first
+      → Ahead set-of slot now_of waits u stay (map one_more go)
+  looked-end i waits late first stay go u v h e =
       let z : i ≡ 0 = omega arith in
       let m = rows-length n rows in
       record {
         rising = v.rising ∙ rw z;
-        claims = v.claims ∙ rw z;
+        claims = e ∙ v.claims ∙ rw z;
         staying = λ j k. v.staying j (omega arith) (omega arith);
         going = λ j k. v.going j (omega arith) (omega arith);
       }
 
 -- ── the tasks that have to be chosen ────────────────────────────────────────
 
-pub claim-none : (u : ℕ) (b : Bool) (i : ℕ) → b ≡ true → u ≡ claim u b i
-unfolding claim
-claim-none u b i e = rw e
+pub urgent-none : (late first : ℕ) → late ≡ 0 → 256 ≡ urgent_in late first
+unfolding urgent_in
+urgent-none late first e = rw e
 
-pub claim-first : (u : Urgent) (b : Bool) (i : ℕ) → b ≡ false → u ≡ Nobody → i ≡ claim (urgent_of u) b i
-unfolding claim
-claim-first u b i e f = rw (e, f)
+pub urgent-one : (late first : ℕ) → late ≡ 1 → first ≡ urgent_in late first
+unfolding urgent_in
+urgent-one late first e = rw e
 
-pub claim-second : (u : Urgent) (b : Bool) (i j : ℕ) → b ≡ false → u ≡ Only j → Fits w8 j → 257 ≡ claim (urgent_of u) b i
-unfolding claim
-claim-second u b i j e f h = rw (e, f, ne_eqb j 256 (λ z. omega arith))
+pub urgent-more : (late first : ℕ) → (late ≡ 0 → ⊥) → (late ≡ 1 → ⊥) → 257 ≡ urgent_in late first
+unfolding urgent_in
+urgent-more late first e f = rw (ne_eqb late 0 e, ne_eqb late 1 f)
 
-pub claim-more : (u : Urgent) (b : Bool) (i : ℕ) → b ≡ false → u ≡ Several → 257 ≡ claim (urgent_of u) b i
-unfolding claim
-claim-more u b i e f = rw (e, f)
-
-pub ruleset claim_laws = (claim-none, claim-first, claim-second, claim-more)
+pub ruleset urgent_laws = (urgent-none, urgent-one, urgent-more)

@@ -1,21 +1,23 @@
 -- The tasks of rows, place by place, and the progress that a search begins with.
 use mathlib.Core.Path.{◌≡◌, refl, sym, ap, ◌∙◌}
-use mathlib.Core.List.{List, [], ◌∷◌}
-use Prim.Native.Nat.{ℕ, zero, suc, ◌≤◌, ◌<◌}
+use mathlib.Core.List.{List, [], ◌∷◌, map}
+use mathlib.Core.Logic.{◌⊎◌, inl, inr}
+use Prim.Native.Nat.{ℕ, zero, suc, ◌+◌, ◌≤◌, ◌<◌}
 use native.Mathlib.Omega.{arith}
-use lib.Seq.{ext_get_or}
-use lib.ListN.{length, get_or, take, replicate}
+use lib.Seq.{ext_get_or, map-set, get_or-set_same, get_or-set_other}
+use lib.ListN.{length, get_or, take, set, replicate, length-set, length-map}
 use Rattle.std.proofs.lemmas.List.{get_or-map}
-use Rattle.rules.specs.Tasks.{no_task, sum, span}
+use Rattle.rules.specs.Tasks.{Task, no_task, sum, span}
+use Rattle.rules.proofs.Laws.{le-or-lt}
 use Rattle.rules.proofs.Lists.{tabulate-length, tabulate-at}
 use Rattle.tasks.specs.declared.timed.Timed.{Timed}
 use Rattle.tasks.specs.Timed.{timed_task}
-use Rattle.tasks.specs.Views.{no_entry, task_of, set_of}
+use Rattle.tasks.specs.declared.Task as code
+use Rattle.tasks.specs.Views.{task_of, set_of}
 use Rattle.tasks.specs.declared.TaskSet.{TaskSet}
 use Rattle.tasks.proofs.Timing.{whole-is}
-use Rattle.tasks.proofs.Views.{set_at}
 use Rattle.tasks.proofs.Positions.{set-fits}
-use Rattle.planner.specs.Rows.{AreRows, task_at, row_tasks}
+use Rattle.planner.specs.Rows.{task_at, row_tasks}
 
 pub rows-length : (n : ℕ) (rows : List Timed) → length (row_tasks n rows) ≡ n
 unfolding row_tasks
@@ -36,18 +38,42 @@ row_small [] i = omega arith
 row_small (r ∷ rs) zero = let w = whole-is r in let s = r.small in omega arith
 row_small (r ∷ rs) (suc i) = row_small rs i
 
-row_of : (s : TaskSet) (rows : List Timed) (i : ℕ) → AreRows s rows → i < 8 → i < length rows → task_at rows i ≡ task_of (get_or s.tasks i no_entry)
-row_of s [] i are h k = let z : ⊥ = omega arith in absurd z
-row_of s (r ∷ rs) i are h k = sym (row_is (r ∷ rs) i r k) ∙ are i no_entry r h
+-- the tasks in use are eight at most
+few-tasks : (s : TaskSet) (tasks : List code.Task) → map task_of tasks ≡ set_of s → length tasks ≤ 8
+few-tasks s tasks all = let f = set-fits s in let l = length-map tasks task_of in let e = ap length all in omega arith
 
--- the rows of a set hold its tasks
-pub rows-tasks : (s : TaskSet) (rows : List Timed) → length rows ≡ 8 → AreRows s rows → row_tasks (length (set_of s)) rows ≡ set_of s
-rows-tasks s rows eight are =
-    let n = length (set_of s) in
-    let l = rows-length n rows in
-    let f = set-fits s in
-    ext_get_or no_task (row_tasks n rows) (set_of s) l
-    (λ i h. row_at n rows i (omega arith) ∙ row_of s rows i are (omega arith) (omega arith) ∙ sym (set_at s i (omega arith) (omega arith)))
+-- the rows before place i hold the tasks
+module _ (tasks : List code.Task) where
+  pub record Laying (i : ℕ) (rows : List Timed) : Type 0 where
+    pub few : length tasks ≤ 8
+    pub eight : length rows ≡ 8
+    pub done : (j : ℕ) → j < i → task_at rows j ≡ get_or (map task_of tasks) j no_task
+
+  pub laying_start : (s : TaskSet) (rows : List Timed) → map task_of tasks ≡ set_of s → length rows ≡ 8 → Laying 0 rows
+  laying_start s rows all e = record { few = few-tasks s tasks all; eight = e; done = λ j h. let z : ⊥ = omega arith in absurd z }
+
+  pub laying-step : (i : ℕ) (rows : List Timed) → Laying i rows → i < length tasks → (r : Timed) (d : code.Task) → timed_task r ≡ task_of (get_or tasks i d) → Laying (i + 1) (set rows i r)
+  unfolding task_at
+  laying-step i rows v h r d e = record { few = v.few; eight = length-set rows i r ∙ v.eight; done = λ j k. rw (map-set timed_task rows i r) (go j (le-or-lt i j) k) }
+    where
+      go : (j : ℕ) → (i ≤ j) ⊎ (j < i) → j < i + 1 → get_or (set (map timed_task rows) i (timed_task r)) j no_task ≡ get_or (map task_of tasks) j no_task
+      go j (inl l) k =
+          let z : j ≡ i = omega arith in
+          let f = v.few in
+          let a = v.eight in
+          let m = length-map rows timed_task in
+          rw z (get_or-set_same (map timed_task rows) i (timed_task r) no_task (omega arith) ∙ e ∙ sym (get_or-map task_of tasks i d no_task h))
+      go j (inr l) k = get_or-set_other (map timed_task rows) i j (timed_task r) no_task (λ z. let y : ⊥ = omega arith in y) ∙ v.done j l
+
+  pub laying-end : (s : TaskSet) (i : ℕ) (rows : List Timed) → map task_of tasks ≡ set_of s → Laying i rows → length tasks ≤ i → row_tasks (length (set_of s)) rows ≡ set_of s
+  laying-end s i rows all v h =
+      let n = length (set_of s) in
+      let l = rows-length n rows in
+      let f = length-map tasks task_of in
+      let e = ap length all in
+      ext_get_or no_task (row_tasks n rows) (set_of s) l
+      (λ j k. row_at n rows j (omega arith) ∙ v.done j (omega arith) ∙ ap (λ (τs : List Task). get_or τs j no_task) all)
+
 
 -- the first of the eight zeros that a search begins with
 pub take-replicate : (n k a : ℕ) → n ≤ k → take n (replicate k a) ≡ replicate n a

@@ -24,7 +24,7 @@ use Rattle.tasks.specs.declared.timed.Timed.{Timed}
 use Rattle.planner.specs.declared.Word.{Word}
 use Rattle.planner.specs.declared.Word.TheVariants.{Schedule, Infeasible, OutOfRoom}
 use Rattle.planner.specs.declared.Answer.{Answer}
-use Rattle.planner.specs.Rows.{AreRows, row_tasks, Laid}
+use Rattle.planner.specs.Rows.{row_tasks, Laid}
 use Rattle.planner.specs.Marks.{spelled, Listed}
 use Rattle.planner.specs.Machine.{Reaches, opened}
 use Rattle.tasks.specs.declared.refusal.Refusal.{Refusal}
@@ -32,7 +32,6 @@ use Rattle.tasks.specs.declared.refusal.Refusal.TheVariants.{ListTooLong, Malfor
 use Rattle.tasks.specs.Refusals.{number_of}
 use Rattle.std.specs.Prelude.{Result, Ok, Err, IsErrAnd}
 use Rattle.planner.specs.Views.{word_of, answer_of, Opening, end_of, Ran}
-use Rattle.planner.proofs.Places.{rows-tasks}
 use Rattle.planner.proofs.Places.{take-replicate}
 use Rattle.planner.proofs.Meets.{reaches-listed, reaches-size, plan-setting, plan-found, plan-failed, plan-full, plan-dead}
 
@@ -100,12 +99,12 @@ module _ (s : TaskSet) (t a : List ℕ) where
         unfolding answer_of word_of set_of
         never-begun n t' e = plan-dead (record_of s) (arrays s) t a no-refusal (at-start ∙ not-true b n) t' (rw (← period-is) e)
 
-        module _ (go : not b ≡ false) (n : ℕ) (few : n ≡ length (set_of s)) (rows : List Timed) (long : length rows ≡ 8) (are : AreRows s rows) where
+        module _ (go : not b ≡ false) (n : ℕ) (few : n ≡ length (set_of s)) (rows : List Timed) (are : row_tasks (length (set_of s)) rows ≡ set_of s) where
           begun : live_position (set_of s) (start (set_of s)) ≡ true
           begun = at-start ∙ not-false b go
 
           tasks-are : row_tasks n rows ≡ set_of s
-          tasks-are = rw few (rows-tasks s rows long are)
+          tasks-are = rw few are
 
           laid : Laid n rows
           laid = let f = set-fits s in record { few = omega arith }

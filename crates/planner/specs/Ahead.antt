@@ -19,6 +19,10 @@ urgent_of Nobody = 256
 urgent_of (Only i) = i
 urgent_of Several = 257
 
+-- the same, from how many have to be chosen and the first of them
+unfoldable pub urgent_in : ℕ → ℕ → ℕ
+urgent_in late first = cond (eqb late 0) 256 (cond (eqb late 1) first 257)
+
 -- a task's progress at the end of a slot in which it is not chosen
 unfoldable pub stayed : Task → ℕ → ℕ
 stayed τ p = moved (standing τ p) false p

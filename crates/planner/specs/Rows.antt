@@ -1,16 +1,9 @@
 -- The tasks of a set in rows, which the search reads in place.
-use Rattle.std.specs.Prelude.{◌≡◌, List, ℕ, ◌≤◌, ◌<◌, map, get_or}
+use Rattle.std.specs.Prelude.{List, ℕ, ◌≤◌, ◌<◌, map, get_or}
 use Rattle.rules.specs.Lists.{tabulate}
 use Rattle.rules.specs.Tasks.{Task, no_task}
-use Rattle.tasks.specs.declared.Task as code
-use Rattle.tasks.specs.declared.TaskSet.{TaskSet}
 use Rattle.tasks.specs.declared.timed.Timed.{Timed}
 use Rattle.tasks.specs.Timed.{timed_task}
-use Rattle.tasks.specs.Views.{task_of}
-
--- the rows are those of the set's tasks
-abbrev pub AreRows : TaskSet → List Timed → Type 0
-AreRows s rows = (i : ℕ) → (t : code.Task) → (r : Timed) → i < 8 → timed_task (get_or rows i r) ≡ task_of (get_or s.tasks i t)
 
 -- the task of a row
 unfoldable pub task_at : List Timed → ℕ → Task

@@ -4,7 +4,7 @@ ghost use Rattle.std.specs.Prelude.{◌≡◌, cond, ◌||◌, suc, ◌+◌, ◌
 ghost use Rattle.tasks.specs.Slots.{well_at};
 ghost use Rattle.tasks.specs.Timed.{timed_task};
 ghost use Rattle.planner.specs.Rows.{row_tasks, Laid};
-ghost use Rattle.planner.specs.Ahead.{stayed, gone, claim, one_more, urgent_of, IsWay, Ahead};
+ghost use Rattle.planner.specs.Ahead.{one_more, urgent_of, urgent_in, IsWay, Ahead};
 
 use tasks::Standing;
 use tasks::timed::{Since, Timed};
@@ -36,25 +36,16 @@ fn ways_of(task: &Timed, slot: u16, progress: u16) -> Ways
     ensures { IsWay slot (timed_task task.now) progress result.rises result.well result.stay (one_more result.go) }
 {
     let since = task.since_end(slot);
-    match task.standing_at(progress) {
-        Standing::Ready => Ways {
-            rises: false,
-            well: task.ends_well(since, progress),
-            stay: task.begun(since, progress),
-            go: go_from(task, since, progress + 1),
-        },
-        Standing::Waiting => Ways {
-            rises: true,
-            well: task.ends_well(since, progress + 1),
-            stay: task.begun(since, progress + 1),
-            go: None,
-        },
-        Standing::Done => Ways {
-            rises: false,
-            well: task.ends_well(since, progress),
-            stay: task.begun(since, progress),
-            go: None,
-        },
+    let (end, go) = match task.standing_at(progress) {
+        Standing::Ready => (progress, go_from(task, since, progress + 1)),
+        Standing::Waiting => (progress + 1, None),
+        Standing::Done => (progress, None),
+    };
+    Ways {
+        rises: progress != end,
+        well: task.ends_well(since, end),
+        stay: task.begun(since, end),
+        go,
     }
 }
 
@@ -82,15 +73,15 @@ impl Urgent {
     }
 }
 
-// The tasks that have to be chosen, with one more task considered.
-#[tactic(auto, using(crate::proofs::Outlooks::claim_laws))]
-fn claim_of(urgent: Urgent, well: bool, i: u8) -> Urgent
-    ensures { urgent_of result ≡ claim (urgent_of urgent) well i }
+// The tasks that have to be chosen, from how many they are and the first of them, by its number less 1.
+#[tactic(auto, using(crate::proofs::Outlooks::urgent_laws))]
+fn urgent_from(late: u8, first: u8) -> Urgent
+    ensures { urgent_of result ≡ urgent_in late first }
 {
-    match urgent {
-        _ if well => urgent,
-        Urgent::Nobody => Urgent::Only(i),
-        Urgent::Only(_) | Urgent::Several => Urgent::Several,
+    match late {
+        0 => Urgent::Nobody,
+        1 => Urgent::Only(first),
+        _ => Urgent::Several,
     }
 }
 
@@ -114,17 +105,21 @@ pub(crate) fn look_ahead(
     ensures { Ahead (row_tasks n rows.now) slot (take n progress.old) result.waits (urgent_of result.urgent) progress.new (map one_more go.new) }
 {
     let mut waits: u16 = 0;
-    let mut urgent = Urgent::Nobody;
+    let mut late = 0;
+    let mut first = 0;
     for i in (0..n).rev() {
         let way = ways_of(&rows[i], slot, progress[i]);
         progress[i] = way.stay;
         go[i] = way.go;
         waits = waits * 2 + way.rises as u16;
-        urgent = claim_of(urgent, way.well, i as u8);
+        if !way.well {
+            late += 1;
+            first = i as u8;
+        }
     }
     Outlook {
         waits: waits as u8,
-        urgent,
+        urgent: urgent_from(late, first),
     }
 }
 

@@ -25,12 +25,10 @@ use Rattle.player.proofs.Places.{sets-next, sets-all}
 -- ── reading ─────────────────────────────────────────────────────────────────
 
 module _ (bs : List ℕ) where
-
   pub set-read : (ts : List Task) → tabulate (λ k. entry_of (get_or ts k no_entry)) 0 8 ≡ tabulate (λ k. task_at bs (1 + k * 12)) 0 8
       → record_of (record { count = get_or bs 0 0; tasks = ts }) ≡ set_at bs
   unfolding record_of set_at
   set-read ts e = rw e
-
 
   pub state-read : (s : TaskSet) (slot : ℕ) (ps : List ℕ) (js : List Job) (last : Option ℕ) → record_of s ≡ set_at bs → slot ≡ get_or bs 97 0 + get_or bs 98 0 * 256 → eight ps ≡ (state_at bs).planned → jobs_of js ≡ (state_at bs).jobs
       → runner_number last ≡ get_or bs 139 0 → state_of (record { set = s; slot = slot; planned = ps; jobs = js; last = last }) ≡ state_at bs
@@ -38,7 +36,6 @@ module _ (bs : List ℕ) where
   state-read s slot ps js last e f g h l =
       let low : slot ≡ get_or bs 97 0 + 256 * get_or bs 98 0 = omega arith in
       rw (e, low, g, h, l)
-
 
   pub short : (length bs ≡ 140 → ⊥) → false ≡ readable bs
   unfolding readable state_size

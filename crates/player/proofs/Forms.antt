@@ -1,12 +1,11 @@
 -- The form of a state, test by test, as the code makes them.
 use Rattle.std.proofs.Common.{◌≡◌, ◌≤◌, ◌<◌, ◌+◌, ◌-◌, ◌%◌, ◌==◌, ◌⊎◌, inl, inr, ℕ, suc, zero, List, [], ◌∷◌, Bool, true, false, not, eqb, leb, ltb, ◌&&◌, ◌||◌, T, length, map, get_or, take, drop, arith, sym, ap, refl, ◌∙◌, add-one, drop-cons}
-use native.Mathlib.Nat.{zero-add}
 use borrow.Author.Tests.{ne_eqb, eq-eqb, lt-ltb}
-use lib.ListN.{length-drop, length-map}
+use lib.ListN.{length-drop}
 use lib.Seq.{ext_get_or, length-take-le, take_all}
 use Rattle.std.specs.List.{list_all}
-use Rattle.std.proofs.lemmas.List.{drop_all, take-map, get_or-map}
-use Rattle.rules.specs.Lists.{tabulate, all_of, is_zero}
+use Rattle.std.proofs.lemmas.List.{drop_all, take-map}
+use Rattle.rules.specs.Lists.{all_of, is_zero}
 use Rattle.rules.specs.Tasks.{Task, no_task, span}
 use Rattle.rules.specs.Positions.{starts, in_time, every, live_position}
 use Rattle.rules.specs.Hyper.{hyper}
@@ -15,7 +14,6 @@ use Rattle.rules.specs.Jobs.{finished}
 use Rattle.rules.specs.Records.{TaskRecord, no_record, task_in, pattern_of, used, set_in, record_refusal}
 use Rattle.rules.specs.States.{is_blank_job, is_blank_task, units_tidy, rest_zero, planned_form, job_form, jobs_form, last_form, in_use, in_use_form, form}
 use Rattle.rules.proofs.Laws.{le-or-lt, true-T}
-use Rattle.rules.proofs.Lists.{tabulate-at, tabulate-length}
 use Rattle.tasks.specs.declared.Task as code
 use Rattle.tasks.specs.declared.TaskSet.{TaskSet}
 use Rattle.tasks.specs.declared.timed.Timed.{Timed}

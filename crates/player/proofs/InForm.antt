@@ -1,9 +1,8 @@
 -- What a state of the form has: a few tasks, a slot of the hyper-period, and for each task a job of its form and a plan that begins anew where the job does.
-use mathlib.Core.Path.{◌≡◌, refl, sym, ap, ◌∙◌}
-use mathlib.Core.Logic.{◌⊎◌, inl, inr}
+use mathlib.Core.Path.{◌≡◌, refl, sym, ◌∙◌}
 use mathlib.Core.Bool.{Bool, true, false, not, ◌&&◌, ◌||◌}
 use mathlib.Core.List.{List, [], ◌∷◌}
-use Prim.Native.Nat.{ℕ, zero, suc, ◌+◌, ◌≤◌, ◌<◌}
+use Prim.Native.Nat.{ℕ, ◌+◌, ◌≤◌, ◌<◌}
 use native.Mathlib.Omega.{arith}
 use lib.Dec.{T, leb, ltb, eqb, ltb→lt, eqb→eq}
 use lib.ListN.{length, get_or}
@@ -16,7 +15,7 @@ use Rattle.rules.specs.Positions.{every, starts, live_position}
 use Rattle.rules.specs.Records.{set_in, record_refusal}
 use Rattle.rules.specs.Jobs.{finished, turn}
 use Rattle.rules.specs.States.{planned_form, job_form, jobs_form, last_form, in_use, in_use_form, rest_zero, form}
-use Rattle.rules.proofs.Laws.{T_true, T_and, T-or, every-at}
+use Rattle.rules.proofs.Laws.{T_and, every-at}
 use Rattle.rules.proofs.Set.Tidy.{counts, set-shape}
 use Rattle.rules.proofs.Play.Closed.{formed-jobs}
 use Rattle.tasks.specs.Views.{no_entry, record_of, task_of, set_of}

@@ -13,3 +13,5 @@ pub mod Inverse
 pub mod Pieces
 pub mod Defaults
 pub mod Carried
+pub mod Calls
+pub mod Promises

@@ -5,7 +5,7 @@ use mathlib.Core.Bool.{Bool, true, false, cond, ◌&&◌}
 use mathlib.Core.List.{List, [], ◌∷◌}
 use Prim.Native.Nat.{ℕ, zero, suc, ◌+◌, ◌≤◌, ◌<◌}
 use native.Mathlib.Omega.{arith}
-use lib.Dec.{T, ltb, eqb}
+use lib.Dec.{T, ltb}
 use lib.ListN.{length, get_or, set, replicate}
 use borrow.Author.Tests.{lt-ltb, le-ltb, ne_eqb}
 use Rattle.std.specs.Prelude.{Option, Some, None, min}
@@ -21,7 +21,6 @@ use Rattle.rules.proofs.Lists.{clash-bool, tabulate-at, tabulate-length}
 use Rattle.rules.proofs.Play.Lanes.{turn-runs}
 use Rattle.tasks.specs.Views.{set_of}
 use Rattle.player.specs.declared.Cause.{Cause}
-use Rattle.player.specs.declared.Stand.TheVariants.{Ready}
 use Rattle.player.specs.declared.Job.{Job}
 use Rattle.player.specs.declared.State.{State}
 use Rattle.player.specs.Turns.{turn_for}

@@ -10,17 +10,16 @@ use lib.ListN.{length, get_or, take, drop, set, replicate, length-append, length
 use lib.Seq.{drop-cons, length-take-le, get_or-take, ext_get_or}
 use borrow.Author.Tests.{eq-eqb, ne_eqb}
 use Rattle.std.proofs.lemmas.List.{drop-replicate, map-append}
-use Rattle.std.specs.Prelude.{Option, Some, None, Result, Ok, Err}
+use Rattle.std.specs.Prelude.{None, Ok, Err}
 use Rattle.rules.specs.Lists.{tabulate, padded}
 use Rattle.rules.specs.Positions.{idle, each, passed, ended, restarted, next, live_position, legal, start}
 use Rattle.rules.specs.Hyper.{hyper}
 use Rattle.rules.specs.Choices.{live_from}
-use Rattle.rules.specs.Records.{TaskRecord, task_in, no_record, or_else, used, set_in, record_refusal}
+use Rattle.rules.specs.Records.{TaskRecord, task_in, no_record, or_else, used, record_refusal}
 use Rattle.rules.specs.Jobs.{finished}
 use Rattle.rules.specs.Player.{fresh}
 use Rattle.rules.specs.States.{blank_job, blank_task, tidy_task, tidied, as_record, is_schedule, start_refusal, started_or, start_reply}
 use Rattle.rules.proofs.Laws.{T_true, true-T, each-length}
-use Rattle.rules.proofs.Set.Admitted.{tasks-length}
 use Rattle.tasks.specs.declared.Task.{Task}
 use Rattle.tasks.specs.declared.TaskSet.{TaskSet}
 use Rattle.tasks.specs.declared.refusal.Refusal.{Refusal}
@@ -30,11 +29,10 @@ use Rattle.tasks.specs.Views.{no_entry, entry_of, record_of, task_of, set_of, pr
 use Rattle.tasks.proofs.OneTask.{pattern-short}
 use Rattle.tasks.proofs.Positions.{set-fits, progress-length, progress-array}
 use Rattle.tasks.proofs.Refusals.{number-some}
-use Rattle.player.specs.declared.Stand.TheVariants.{Ready}
 use Rattle.player.specs.declared.Job.{Job}
 use Rattle.player.specs.declared.State.{State}
 use Rattle.player.specs.Answers.{StartAnswer, start_answer, started_of}
-use Rattle.player.specs.Views.{stand_of, job_of, no_job, eight, jobs_of, runner_number, state_of}
+use Rattle.player.specs.Views.{job_of, no_job, eight, jobs_of, state_of}
 use Rattle.player.proofs.Arrays.{Made, made-start, made-step, made-end, map_at, padded-length, padded-same}
 use Rattle.player.proofs.Views.{listed, jobs-map, map-replicate}
 

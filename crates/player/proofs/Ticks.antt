@@ -2,19 +2,19 @@
 use mathlib.Core.Path.{◌≡◌, refl, sym, ap, ◌∙◌}
 use mathlib.Core.Bool.{Bool, true, false}
 use mathlib.Core.List.{List}
-use Prim.Native.Nat.{ℕ, suc, ◌%◌, ◌≤◌, ◌<◌}
+use Prim.Native.Nat.{ℕ, suc, ◌%◌, ◌<◌}
 use native.Mathlib.Omega.{arith}
 use lib.Dec.{T}
 use lib.ListN.{length, get_or}
 use borrow.Author.Tests.{eq-eqb, ne_eqb}
-use Rattle.std.specs.Prelude.{Option, Result, Ok, Err}
+use Rattle.std.specs.Prelude.{Option, Ok, Err}
 use Rattle.rules.specs.Lists.{padded}
 use Rattle.rules.specs.Hyper.{hyper}
 use Rattle.rules.specs.Positions.{idle, next, legal}
 use Rattle.rules.specs.Records.{set_in}
 use Rattle.rules.specs.Player as rules
 use Rattle.rules.specs.Player.{tick}
-use Rattle.rules.specs.States.{blank_job, in_use, form, as_record, tick_refused, ticked, entry_fits, tick_refusal, ticked_or, tick_reply}
+use Rattle.rules.specs.States.{blank_job, in_use, form, as_record, ticked, entry_fits, tick_refusal, ticked_or, tick_reply}
 use Rattle.rules.proofs.Laws.{T_true}
 use Rattle.tasks.specs.declared.refusal.Refusal.{Refusal}
 use Rattle.tasks.specs.declared.refusal.Refusal.TheVariants.{BadState, ReportCount, BadTable}
@@ -24,12 +24,11 @@ use Rattle.player.specs.declared.Cause.{Cause}
 use Rattle.player.specs.declared.Job.{Job}
 use Rattle.player.specs.declared.State.{State}
 use Rattle.player.specs.declared.form.Formed.{Formed}
-use Rattle.player.specs.declared.Ticked.{Ticked}
 use Rattle.player.specs.Views.{eight, jobs_of, faults_of, runner_number, state_of}
 use Rattle.player.specs.Answers.{TickAnswer, tick_answer, ticked_of}
 use Rattle.player.proofs.Views.{eight-same}
 use Rattle.player.proofs.Starts.{onward-length}
-use Rattle.player.proofs.InForm.{few, tasks-are, slot-below}
+use Rattle.player.proofs.InForm.{tasks-are, slot-below}
 use Rattle.player.proofs.Rounds.{read}
 
 module _ (st : State) (table reports : List ℕ) where

@@ -1,7 +1,10 @@
 -- A start and a tick as they are called from C: the number that is returned, and every lent byte afterwards, from the bytes before.
-use Rattle.std.specs.Prelude.{cond, ◌&&◌, List, ◌++◌, ℕ, ◌+◌, ◌*◌, leb, eqb, length, drop}
+use Rattle.std.specs.Prelude.{cond, ◌&&◌, List, ◌++◌, ℕ, ◌+◌, ◌*◌, leb, eqb, length, drop, Option, Result, Ok, Err}
 use Rattle.rules.specs.Positions.{idle}
 use Rattle.rules.specs.States.{StartReply, start_refused, started, start_reply, TickReply, tick_refused, ticked, tick_reply}
+use Rattle.tasks.specs.declared.refusal.Refusal.{Refusal}
+use Rattle.tasks.specs.Refusals.{number_of}
+use Rattle.player.specs.Views.{runner_number}
 use Rattle.player.specs.Bytes.{set_size, state_size, state_bytes, set_at, state_at, readable}
 
 -- ── a start ─────────────────────────────────────────────────────────────────
@@ -14,6 +17,11 @@ start_call set table state = cond (eqb (length set) set_size) (start_reply (set_
 unfoldable pub start_number : StartReply → ℕ
 start_number (start_refused n) = n
 start_number (started w) = 0
+
+-- the number of what the code answers
+abbrev pub start_told : {A : Type 0} → Result A Refusal → ℕ
+start_told (Ok x) = 0
+start_told (Err r) = number_of r
 
 -- the state is written at the start of the buffer, and the rest kept; a refusal changes no byte
 unfoldable pub start_buffer : StartReply → List ℕ → List ℕ
@@ -31,6 +39,11 @@ tick_call state table reports next faults =
 unfoldable pub tick_number : TickReply → ℕ
 tick_number (tick_refused n) = 256 * n + idle
 tick_number (ticked runner shown w) = runner
+
+-- the number of what the code answers
+abbrev pub tick_told : Result (Option ℕ) Refusal → ℕ
+tick_told (Ok runner) = runner_number runner
+tick_told (Err r) = 256 * number_of r + idle
 
 -- the new state is written at the start of its buffer, and the rest kept; a refusal changes no byte
 unfoldable pub tick_buffer : TickReply → List ℕ → List ℕ

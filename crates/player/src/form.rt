@@ -79,7 +79,13 @@ fn tasks_fit(state: &State) -> bool
     ensures { result ≡ tasks_fit (state_of state.now) 0 }
 {
     for (i, task) in state.set.used().iter().enumerate() {
-        if !task_fits(task, state.slot, state.planned[i], state.ran(i), &state.jobs[i]) {
+        if !task_fits(
+            task,
+            state.slot,
+            state.planned[i],
+            state.ran(i),
+            &state.jobs[i],
+        ) {
             return false;
         }
     }

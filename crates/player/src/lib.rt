@@ -7,6 +7,7 @@ pub mod begin;
 pub mod codec;
 pub mod form;
 pub mod round;
+pub mod strings;
 pub mod turn;
 
 ghost use Rattle.std.specs.Prelude.{◌≡◌, true};
@@ -88,7 +89,10 @@ pub fn tick(state: State, table: &[u8], reports: &[u8]) -> Result<Ticked, Refusa
         return Err(Refusal::BadTable);
     }
     let State {
-        set, slot, planned, ..
+        set,
+        slot,
+        planned,
+        ..
     } = state;
     let at = Position {
         slot,

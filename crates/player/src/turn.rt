@@ -177,7 +177,9 @@ impl TaskTurn {
         let job = self.job;
         match (job.stand, report) {
             (Stand::Stopped(_), _) => job,
-            (Stand::Ready, Report::Nothing) if self.ran && self.is_used_up() => Job::stopped(Cause::Overrun),
+            (Stand::Ready, Report::Nothing) if self.ran && self.is_used_up() => Job::stopped(
+                Cause::Overrun,
+            ),
             (_, Report::Nothing) => job,
             (Stand::Ready, Report::StepDone) if self.ran => self.step_done(),
             (Stand::Waiting, Report::WaitEnded) => Job {

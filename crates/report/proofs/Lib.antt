@@ -1,4 +1,5 @@
 pub mod Put
+pub mod Adds
 pub mod Numbers
 pub mod Slots
 pub mod Said

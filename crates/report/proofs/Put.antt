@@ -1,11 +1,10 @@
 -- Bytes put after bytes.
 use mathlib.Core.Path.{◌≡◌, refl, sym, ap, ap₂, ◌∙◌}
 use mathlib.Core.List.{List, [], ◌∷◌, ◌++◌, append_assoc, append-nil}
-use Prim.Native.Nat.{ℕ, zero, suc, ◌+◌, ◌-◌, ◌≤◌, ◌<◌}
+use Prim.Native.Nat.{ℕ, zero, suc, ◌+◌, ◌-◌, ◌≤◌}
 use native.Mathlib.Omega.{arith}
-use native.Mathlib.Numerals.{add-one}
-use lib.ListN.{length, get_or, take, drop, set, length-append, length-drop, take-append-drop}
-use lib.Seq.{length-take-le, take-suc, take-nil, set_split, append_snoc, take_at, drop-append-add, drop-drop, take_all}
+use lib.ListN.{length, take, drop, length-append, length-drop, take-append-drop}
+use lib.Seq.{length-take-le, take-nil, take_at, drop-append-add, drop-drop, take_all}
 use Rattle.report.specs.Put.{Put, PutCut}
 
 -- nothing more
@@ -16,17 +15,9 @@ put-none o at h = record {
   within = h;
 }
 
--- one byte
-pub put-single : (o : List ℕ) (at b : ℕ) → at < length o → Put o at (b ∷ []) (at + 1) (set o at b)
-put-single o at b h = record {
-  text = set_split o at b h ∙ sym (append_snoc (take at o) b (drop (suc at) o)) ∙ ap (λ k. take at o ++ (b ∷ []) ++ drop k o) (sym (add-one at));
-  behind = refl;
-  within = omega arith;
-}
-
 module _ {o : List ℕ} {at : ℕ} {xs : List ℕ} {r : ℕ} {p : List ℕ} (P : Put o at xs r p) where
   -- what stands before the end
-  pub put_front : length (take at o ++ xs) ≡ r
+  put_front : length (take at o ++ xs) ≡ r
   put_front = let b = P.behind in let w = P.within in let l = length-append (take at o) xs in let k = length-take-le at o (omega arith) in omega arith
 
   pub put-length : length p ≡ length o
@@ -42,7 +33,7 @@ module _ {o : List ℕ} {at : ℕ} {xs : List ℕ} {r : ℕ} {p : List ℕ} (P :
   pub put-taken : take r p ≡ take at o ++ xs
   put-taken = rw P.text (take_at (take at o ++ xs) (drop (at + length xs) o) r put_front)
 
-  pub put-kept : (m : ℕ) → drop (r + m) p ≡ drop (r + m) o
+  put-kept : (m : ℕ) → drop (r + m) p ≡ drop (r + m) o
   put-kept m =
       rw P.text (ap (λ k. drop (k + m) (take at o ++ xs ++ drop (at + length xs) o)) (sym put_front)
       ∙ drop-append-add (take at o ++ xs) (drop (at + length xs) o) m
@@ -50,7 +41,7 @@ module _ {o : List ℕ} {at : ℕ} {xs : List ℕ} {r : ℕ} {p : List ℕ} (P :
       ∙ ap (λ k. drop (k + m) o) (sym P.behind))
 
   -- bytes, and more bytes behind them
-  pub put-more : {ys : List ℕ} {s : ℕ} {q : List ℕ} → Put p r ys s q → Put o at (xs ++ ys) s q
+  put-more : {ys : List ℕ} {s : ℕ} {q : List ℕ} → Put p r ys s q → Put o at (xs ++ ys) s q
   put-more {ys = ys} {s = s} {q = q} Q =
       let b = P.behind in let c = Q.behind in let w = Q.within in let n = length-append xs ys in let l = put-length in
       let e : r + length ys ≡ at + length (xs ++ ys) = omega arith in
@@ -61,27 +52,6 @@ module _ {o : List ℕ} {at : ℕ} {xs : List ℕ} {r : ℕ} {p : List ℕ} (P :
         behind = omega arith;
         within = omega arith;
       }
-
--- a copy that begins, one that has come to i and takes one byte more, and one that has come to the end
-pub word-start : (o : List ℕ) (at : ℕ) (w : List ℕ) → at + length w ≤ length o → Put o at [] (at + 0) o
-word-start o at w h = let e : at + 0 ≡ at = omega arith in rw e (put-none o at (omega arith))
-
-pub word_more : (o : List ℕ) (at : ℕ) (w p : List ℕ) (i : ℕ) → at + length w ≤ length o → i < length w → Put o at (take i w) (at + i) p
-    → Put o at (take (i + 1) w) (at + (i + 1)) (set p (at + i) (get_or w i 0))
-word_more o at w p i h k P =
-    let l = put-length P in
-    let e : at + i + 1 ≡ at + (i + 1) = omega arith in
-    rw (add-one i, take-suc w i 0, ← add-one i, ← e) (put-more P (put-single p (at + i) (get_or w i 0) (omega arith)))
-
-pub word-all : (o : List ℕ) (at : ℕ) (w p : List ℕ) (i : ℕ) → i ≤ length w → length w ≤ i → Put o at (take i w) (at + i) p → Put o at w (at + length w) p
-word-all o at w p i h k P = let e : i ≡ length w = omega arith in rw (e, take_all (length w) w (omega arith)) at P
-
--- as much as there is room for
-pub cut_short : (o : List ℕ) (at : ℕ) (w : List ℕ) (r : ℕ) (p : List ℕ) → Put o at (take (length o - at) w) r p → PutCut o at w r p
-cut_short o at w r p P = record { put = P }
-
-pub cut_all : (o : List ℕ) (at : ℕ) (w : List ℕ) (r : ℕ) (p : List ℕ) → length w ≤ length o - at → Put o at w r p → PutCut o at w r p
-cut_all o at w r p h P = record { put = rw (take_all (length o - at) w h) P }
 
 -- ── cut to the room ─────────────────────────────────────────────────────────
 
@@ -96,5 +66,9 @@ cut-more {o = o} {at = at} xs {r = r} {p = p} ys C D =
     let e : length p - r ≡ length o - at - length (take (length o - at) xs) = omega arith in
     record { put = rw (take-parts (length o - at) xs ys, ← e) (put-more C.put D.put) }
 
-pub cut-none : (o : List ℕ) → PutCut o 0 [] 0 o
-cut-none o = record { put = rw (take-nil (length o - 0)) (put-none o 0 (omega arith)) }
+pub cut-none : (o : List ℕ) (at : ℕ) → at ≤ length o → PutCut o at [] at o
+cut-none o at h = record { put = rw (take-nil (length o - at)) (put-none o at h) }
+
+-- with room for all, all stands
+pub cut-whole : {o : List ℕ} {at : ℕ} {xs : List ℕ} {r : ℕ} {p : List ℕ} → length xs ≤ length o - at → PutCut o at xs r p → Put o at xs r p
+cut-whole {o = o} {at = at} {xs = xs} h C = rw (take_all (length o - at) xs h) at C.put

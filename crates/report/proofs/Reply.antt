@@ -104,16 +104,15 @@ module _ (r : SetRecord) (A : Arrays r) (ok : record_refusal r ≡ 0) (table are
   found_first K B (found h F) e = F
   found_first K B (failed h F) e = clash-bool (cc)
 
-  pub tellable : {a : Answer} {t u : List ℕ} (out : List ℕ) → PlanReply r table area a t u → 4300 ≤ length out → Tellable (hyper (set_in r)) a t out
+  pub tellable : {a : Answer} {t u : List ℕ} → PlanReply r table area a t u → Tellable (hyper (set_in r)) a t
   unfolding idle
-  tellable out (refuses {n = n} e) l = clash n (sym e ∙ not-refused)
-  tellable out (plans {q = q} e P) l =
+  tellable (refuses {n = n} e) = clash n (sym e ∙ not-refused)
+  tellable (plans {q = q} e P) =
       let few = hyper-small r ok in
       let f = front_long (set_in r) _ _ P.verdict in
       record {
         few = few;
         slots = (let a = length-append P.front (drop (hyper (set_in r)) table) in let t = ap length P.table_is in omega arith);
-        room = l;
         choices = λ n s k h. choice (cc) k (omega arith);
       }
     where

@@ -1,20 +1,22 @@
 -- Slots in lines of 64.
-use mathlib.Core.Path.{◌≡◌, refl, sym, ap, ◌∙◌}
-use mathlib.Core.Logic.{inl, inr}
+use mathlib.Core.Path.{◌≡◌, refl, ap}
+use mathlib.Core.Logic.{◌⊎◌, inl, inr}
 use mathlib.Core.Bool.{Bool, true, false, cond}
-use mathlib.Core.List.{List, [], ◌∷◌, ◌++◌, append_assoc, append-nil}
-use Prim.Native.Nat.{ℕ, zero, suc, ◌+◌, ◌%◌, ◌/◌, ◌≤◌, ◌<◌}
+use mathlib.Core.List.{List, [], ◌∷◌, ◌++◌}
+use Prim.Native.Nat.{ℕ, zero, suc, ◌+◌, ◌/◌, ◌≤◌, ◌<◌}
 use native.Mathlib.Omega.{arith}
 use native.Mathlib.Numerals.{add-one}
 use borrow.Author.Tests.{eq-eqb, ne_eqb, eqb-true, eqb-false}
 use lib.Dec.{eqb}
-use lib.ListN.{length, get_or, drop, length-append, drop_of_length-le}
-use lib.Seq.{drop-cons}
+use lib.ListN.{length, get_or, take, length-append}
+use lib.Seq.{take-suc, take_all}
+use Rattle.std.specs.Prelude.{All, min, map}
+use Rattle.std.proofs.lemmas.List.{map-append}
 use Rattle.rules.specs.Lists.{is_zero}
 use Rattle.rules.specs.Positions.{idle}
 use Rattle.report.specs.Texts.{slot_byte, slot_lines}
-use Rattle.report.specs.Put.{Put, Choice, slot_text, Showable}
-use Rattle.report.proofs.Put.{put-none, put-more, put-length}
+use Rattle.report.specs.Put.{Choice}
+use Rattle.report.proofs.Adds.{adds-none, adds-more}
 
 -- ── one slot ────────────────────────────────────────────────────────────────
 
@@ -31,101 +33,48 @@ unfolding idle
 task-small c (inl e) h = absurd (h e)
 task-small c (inr k) h = k
 
-pub slot-room : (i c : ℕ) → 1 ≤ length (slot_text i c)
-unfolding slot_text
-slot-room i c = omega arith
+-- ── one line ────────────────────────────────────────────────────────────────
 
-pub slot-room-end : (i c : ℕ) → i ≡ 63 → length (slot_text i c) ≡ 2
-unfolding slot_text
-slot-room-end i c e = rw (eq-eqb i 63 e)
+-- one slot more
+pub bytes-next : (cs : List ℕ) (i : ℕ) → i < length cs → map slot_byte (take (i + 1) cs) ≡ map slot_byte (take i cs) ++ slot_byte (get_or cs i 0) ∷ []
+bytes-next cs i h = rw (add-one i, take-suc cs i 0 h, map-append slot_byte (take i cs) (get_or cs i 0 ∷ [])) refl
 
-pub slot-end : {o : List ℕ} {at : ℕ} (i c : ℕ) {b e : ℕ} {p : List ℕ} {r : ℕ} {q : List ℕ} → i ≡ 63 → b ≡ slot_byte c → Put o at (b ∷ []) e p → Put p e (10 ∷ []) r q → Put o at (slot_text i c) r q
-unfolding slot_text
-slot-end i c h k P Q = rw (eq-eqb i 63 h, ← k) (put-more P Q)
-
-pub slot-on : {o : List ℕ} {at : ℕ} (i c : ℕ) {b r : ℕ} {p : List ℕ} → (i ≡ 63 → ⊥) → b ≡ slot_byte c → Put o at (b ∷ []) r p → Put o at (slot_text i c) r p
-unfolding slot_text
-slot-on i c h k P = rw (ne_eqb i 63 h, ← k) P
-
--- ── all slots ───────────────────────────────────────────────────────────────
-
-next-end : (k : ℕ) → k % 64 ≡ 63 → (k + 1) % 64 ≡ 0
-next-end k e = omega arith
-
-next-on : (k : ℕ) → (k % 64 ≡ 63 → ⊥) → (k + 1) % 64 ≡ suc (k % 64)
-next-on k h = omega arith
-
--- the lines from slot k on begin with that slot
-lines_step : (k c : ℕ) (cs : List ℕ) → slot_lines (k % 64) (c ∷ cs) ≡ slot_text (k % 64) c ++ slot_lines ((k + 1) % 64) cs
-unfolding slot_lines slot_text
-lines_step k c cs = go (eqb (k % 64) 63) refl
+-- slots from column i on that fill a line, or are the last
+line-from : (i : ℕ) (cs ds : List ℕ) → 0 < length cs → (i + length cs ≡ 64) ⊎ ((i + length cs < 64) × (ds ≡ [])) → slot_lines i (cs ++ ds) ≡ (map slot_byte cs ++ 10 ∷ []) ++ slot_lines 0 ds
+unfolding slot_lines is_zero
+line-from i [] ds p h = absurd (omega arith)
+line-from i (c ∷ []) ds p (inl e) = rw (eq-eqb i 63 (omega arith)) refl
+line-from i (c ∷ []) ds p (inr h) = rw (h.1, ne_eqb i 63 (omega arith), ne_eqb (suc i) 0 (omega arith)) refl
+line-from i (c ∷ d ∷ cs) ds p h = rw (ne_eqb i 63 (below h)) (ap (λ l. slot_byte c ∷ l) (line-from (suc i) (d ∷ cs) ds (omega arith) (next h)))
   where
-    go : (b : Bool) → eqb (k % 64) 63 ≡ b → slot_byte c ∷ cond b (10 ∷ slot_lines 0 cs) (slot_lines (suc (k % 64)) cs) ≡ (slot_byte c ∷ cond b (10 ∷ []) []) ++ slot_lines ((k + 1) % 64) cs
-    go true e = rw (next-end k (eqb-true (k % 64) 63 e))
-    go false e = rw (next-on k (eqb-false (k % 64) 63 e))
+    below : (i + suc (suc (length cs)) ≡ 64) ⊎ ((i + suc (suc (length cs)) < 64) × (ds ≡ [])) → i ≡ 63 → ⊥
+    below (inl e) = omega arith
+    below (inr k) = omega arith
 
--- how far the loop has come: what is done, and what is left of the lines
-pub record SlotsInv (o : List ℕ) (at : ℕ) (slots p : List ℕ) (r i : ℕ) : Type 0 where
-  pub within : i ≤ length slots
-  pub shows : Showable slots o at
-  pub done : List ℕ
-  pub put : Put o at done r p
-  pub rest : slot_lines 0 slots ≡ done ++ slot_lines (i % 64) (drop i slots)
+    next : (i + suc (suc (length cs)) ≡ 64) ⊎ ((i + suc (suc (length cs)) < 64) × (ds ≡ [])) → (suc i + suc (length cs) ≡ 64) ⊎ ((suc i + suc (length cs) < 64) × (ds ≡ []))
+    next (inl e) = inl (omega arith)
+    next (inr k) = inr (omega arith, k.1)
 
-pub slots-start : (o : List ℕ) (at : ℕ) (slots : List ℕ) → Showable slots o at → SlotsInv o at slots o at 0
-slots-start o at slots S = record { within = omega arith; shows = S; done = []; put = put-none o at (let h = S.room in omega arith); rest = refl }
+none : (ds : List ℕ) → length ds ≡ 0 → ds ≡ []
+none [] e = refl
+none (d ∷ ds) e = absurd (omega arith)
 
-module _ {o : List ℕ} {at : ℕ} {slots p : List ℕ} {r i : ℕ} (I : SlotsInv o at slots p r i) where
-  -- what is left has room
-  left-room : r + length (slot_lines (i % 64) (drop i slots)) ≤ length p
-  left-room =
-      let b = I.put.behind in let h = I.shows.room in let l = put-length I.put in
-      let a = length-append I.done (slot_lines (i % 64) (drop i slots)) in
-      let e = ap length I.rest in
-      omega arith
+pub lines-none : (ds : List ℕ) → length ds ≡ 0 → slot_lines 0 ds ≡ []
+unfolding slot_lines is_zero
+lines-none ds e = rw (none ds e) refl
 
-  pub slots-choice : i < length slots → Choice (get_or slots i 0)
-  slots-choice h = I.shows.choices i h
+-- what is behind some slots can be shown too
+pub choices-behind : (cs ds : List ℕ) → All Choice (cs ++ ds) → All Choice ds
+choices-behind [] ds a = a
+choices-behind (c ∷ cs) ds a = choices-behind cs ds (λ k d h. a (suc k) d (omega arith))
 
-  pub slots-room : i < length slots → r + length (slot_text (i % 64) (get_or slots i 0)) ≤ length p
-  slots-room h =
-      let e = ap (λ l. length (slot_lines (i % 64) l)) (drop-cons slots i 0 h) ∙ ap length (lines_step i (get_or slots i 0) (drop (suc i) slots)) in
-      let a = length-append (slot_text (i % 64) (get_or slots i 0)) (slot_lines ((i + 1) % 64) (drop (suc i) slots)) in
-      let m = left-room in
-      omega arith
-
-  pub slots-more : {s : ℕ} {q : List ℕ} → i < length slots → Put p r (slot_text (i % 64) (get_or slots i 0)) s q → SlotsInv o at slots q s (i + 1)
-  slots-more h Q = record {
-    within = omega arith;
-    shows = I.shows;
-    done = I.done ++ slot_text (i % 64) (get_or slots i 0);
-    put = put-more I.put Q;
-    rest = I.rest
-        ∙ ap (λ l. I.done ++ slot_lines (i % 64) l) (drop-cons slots i 0 h)
-        ∙ ap (λ l. I.done ++ l) (lines_step i (get_or slots i 0) (drop (suc i) slots))
-        ∙ sym (append_assoc I.done (slot_text (i % 64) (get_or slots i 0)) _)
-        ∙ ap (λ k. (I.done ++ slot_text (i % 64) (get_or slots i 0)) ++ slot_lines ((i + 1) % 64) (drop k slots)) (sym (add-one i));
-  }
-
-  module _ (h : length slots ≤ i) where
-    rest-none : slot_lines 0 slots ≡ I.done ++ slot_lines (i % 64) []
-    rest-none = I.rest ∙ ap (λ l. I.done ++ slot_lines (i % 64) l) (drop_of_length-le slots h)
-
-    -- the last line is full
-    pub slots-full : i % 64 ≡ 0 → Put o at (slot_lines 0 slots) r p
-    unfolding slot_lines is_zero
-    slots-full e = rw (rest-none, e, append-nil I.done) I.put
-
-    -- or it is ended
-    lines-part : (i % 64 ≡ 0 → ⊥) → slot_lines (i % 64) [] ≡ 10 ∷ []
-    unfolding slot_lines is_zero
-    lines-part n = rw (ne_eqb (i % 64) 0 n)
-
-    pub slots-feed : (i % 64 ≡ 0 → ⊥) → r < length p
-    slots-feed n = let m = left-room in let e = ap length (ap (slot_lines (i % 64)) (drop_of_length-le slots h) ∙ lines-part n) in omega arith
-
-    pub slots-part : {s : ℕ} {q : List ℕ} → (i % 64 ≡ 0 → ⊥) → Put p r (10 ∷ []) s q → Put o at (slot_lines 0 slots) s q
-    slots-part n Q = rw (rest-none, lines-part n) (put-more I.put Q)
+-- all slots begin with a line of 64, or are one line
+pub lines-next : (cs ds : List ℕ) → length cs ≡ min 64 (length (cs ++ ds)) → 0 < length (cs ++ ds) → slot_lines 0 (cs ++ ds) ≡ (map slot_byte cs ++ 10 ∷ []) ++ slot_lines 0 ds
+lines-next cs ds e h = let l = length-append cs ds in line-from 0 cs ds (omega arith) (go (eqb (length cs) 64) refl)
+  where
+    go : (b : Bool) → eqb (length cs) 64 ≡ b → (0 + length cs ≡ 64) ⊎ ((0 + length cs < 64) × (ds ≡ []))
+    go true q = inl (let k = eqb-true (length cs) 64 q in omega arith)
+    go false q = let k = eqb-false (length cs) 64 q in let l = length-append cs ds in inr (omega arith, none ds (omega arith))
 
 -- ── how long the lines are ──────────────────────────────────────────────────
 
@@ -139,3 +88,7 @@ lines-length i (c ∷ cs) h = go (eqb i 63) refl (lines-length 0 cs (omega arith
         → length (slot_byte c ∷ cond b (10 ∷ slot_lines 0 cs) (slot_lines (suc i) cs)) ≤ suc (length cs) + (i + suc (length cs) + 63) / 64
     go true e m n = let q = eqb-true i 63 e in omega arith
     go false e m n = let q = eqb-false i 63 e in let k = n (omega arith) in omega arith
+
+pub ruleset byte_laws = (byte-idle, byte-task)
+
+pub ruleset line_laws = (adds-none, adds-more, bytes-next, take_all)

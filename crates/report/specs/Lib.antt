@@ -2,3 +2,4 @@ pub mod Texts
 pub mod Put
 pub mod Reports
 pub mod Help
+pub mod Adds

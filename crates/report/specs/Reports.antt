@@ -10,11 +10,10 @@ unfoldable pub answer_text : ℕ → Answer → List ℕ → List ℕ
 answer_text h (refused n) table = []
 answer_text h (answered w n) table = word_text h w n (take h table)
 
--- room for any text, and slots that can be shown if there is a schedule
-pub record Tellable (h : ℕ) (a : Answer) (table out : List ℕ) : Type 0 where
+-- slots that can be shown if there is a schedule
+pub record Tellable (h : ℕ) (a : Answer) (table : List ℕ) : Type 0 where
   pub few : h ≤ 4096
   pub slots : h ≤ length table
-  pub room : 4300 ≤ length out
   pub choices : (n : ℕ) → a ≡ answered schedule n → (k : ℕ) → k < h → Choice (get_or table k 0)
 
 -- the program's text at the start of `out`, the rest of it kept; table and area as the planner leaves them, and untouched if the list is refused

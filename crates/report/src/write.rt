@@ -1,133 +1,116 @@
-// Bytes put into a lent buffer, one part after the other. Each function puts its part at `at` and returns the index behind it.
-ghost use Rattle.std.specs.Prelude.{◌≡◌, [], ◌∷◌, ◌+◌, ◌≤◌, ◌<◌, length};
+// Text put into a lent buffer, one part after the other, as far as there is room.
+ghost use Rattle.std.specs.Prelude.{◌≡◌, [], ◌∷◌, ◌++◌, ◌≤◌, All, length, map};
 ghost use Rattle.list.specs.Plain.{digits_in};
-ghost use Rattle.report.specs.Texts.{decimal, slot_byte, slot_lines, one_number, two_numbers};
-ghost use Rattle.report.specs.Put.{Put, PutCut, Choice, slot_text, Showable};
+ghost use Rattle.report.specs.Texts.{decimal, slot_byte, slot_lines};
+ghost use Rattle.report.specs.Put.{Choice, fields};
 
-pub fn put_word(out: &mut [u8], at: usize, word: &[u8]) -> usize
-    requires { at + length word.now ≤ length out.old }
-    ensures { Put out.old at word.now result out.new }
-{
-    let mut i = 0;
-    while i < word.len() {
-        out[at + i] = word[i];
-        i += 1;
+use tasks::IDLE;
+
+// A lent buffer, and where its text ends.
+#[derive(Drop)]
+pub struct Text<'a> {
+    pub out: &'a mut [u8],
+    pub end: usize,
+    ghost within: { end ≤ length out.now },
+}
+
+impl<'a> Text<'a> {
+    ghost use Rattle.report.specs.Adds.{Adds};
+
+    // No text yet.
+    pub fn new(out: &'a mut [u8]) -> Text<'a>
+        ensures same_reference { result.out.ghost_name ≡ out.entry.ghost_name }
+        ensures kept { result.out.now ≡ out.old }
+        ensures start { result.end ≡ 0 }
+    {
+        Text { out, end: 0 }
     }
-    at + word.len()
-}
 
-fn put_byte(out: &mut [u8], at: usize, byte: u8) -> usize
-    requires { at < length out.old }
-    ensures { Put out.old at (byte ∷ []) result out.new }
-{
-    out[at] = byte;
-    at + 1
-}
-
-// The digits of n, at most k of them, by recursion on the number without its last digit.
-fn put_digits(out: &mut [u8], at: usize, k: usize, n: u64) -> usize
-    requires { at + k ≤ length out.old }
-    ensures { Put out.old at (digits_in k n) result out.new }
-{
-    if k == 0 {
-        return at;
+    // As much of a word as there is room for.
+    pub fn word(&mut self, word: &[u8])
+        ensures { Adds self.old word.now self.new }
+    {
+        let size = word.len().min(self.out.len() - self.end);
+        let end = self.end + size;
+        self.out[self.end..end].copy_from_slice(&word[..size]);
+        self.end = end;
     }
-    if n == 0 {
-        return at;
+
+    // One byte.
+    pub fn byte(&mut self, byte: u8)
+        ensures { Adds self.old (byte ∷ []) self.new }
+    {
+        self.word(&[byte]);
     }
-    let end = put_digits(out, at, k - 1, n / 10);
-    put_byte(out, end, 48 + (n % 10) as u8)
-}
 
-// A number in decimal: a number of 64 bits has at most 20 digits.
-pub fn put_number(out: &mut [u8], at: usize, n: u64) -> usize
-    requires { at + 20 ≤ length out.old }
-    ensures { Put out.old at (decimal n) result out.new }
-{
-    if n == 0 {
-        return put_byte(out, at, 48);
+    #[tactic(auto, using(crate::proofs::Numbers::number_laws))]
+    // The digits of n, at most k of them, by recursion on the number without its last digit.
+    fn digits(&mut self, k: u8, n: u64)
+        ensures { Adds self.old (digits_in k n) self.new }
+    {
+        if k == 0 || n == 0 {
+            return;
+        }
+        self.digits(k - 1, n / 10);
+        self.byte(b'0' + (n % 10) as u8);
     }
-    put_digits(out, at, 20, n)
+
+    #[tactic(auto, using(crate::proofs::Numbers::number_laws))]
+    // A number in decimal: a number of 64 bits has at most 20 digits.
+    pub fn number(&mut self, n: u64)
+        ensures { Adds self.old (decimal n) self.new }
+    {
+        if n == 0 {
+            self.byte(b'0');
+        } else {
+            self.digits(20, n);
+        }
+    }
+
+    #[tactic(auto, using(crate::proofs::Adds::none_laws), unfolding(crate::specs::Put::fields))]
+    // A line of a word and numbers.
+    pub fn line(&mut self, word: &[u8], numbers: &[u64])
+        ensures { Adds self.old (word.now ++ fields numbers.now ++ 10 ∷ []) self.new }
+    {
+        self.word(word);
+        for n in numbers {
+            self.byte(b' ');
+            self.number(*n);
+        }
+        self.byte(b'\n');
+    }
+
+    #[tactic(auto, using(crate::proofs::Slots::line_laws))]
+    // A line of slots.
+    fn slot_line(&mut self, choices: &[u8])
+        requires { All Choice choices.now }
+        ensures { Adds self.old (map slot_byte choices.now ++ 10 ∷ []) self.new }
+    {
+        for choice in choices {
+            self.byte(slot_byte(*choice));
+        }
+        self.byte(b'\n');
+    }
+
+    // The slots, 64 to a line.
+    pub fn slots(&mut self, slots: &[u8])
+        requires { All Choice slots.now }
+        ensures { Adds self.old (slot_lines 0 slots.now) self.new }
+    {
+        for line in slots.chunks(64) {
+            self.slot_line(line);
+        }
+    }
 }
 
-// A number after a space.
-fn put_field(out: &mut [u8], at: usize, n: u64) -> usize
-    requires { at + 21 ≤ length out.old }
-    ensures { Put out.old at (32 ∷ decimal n) result out.new }
-{
-    let end = put_byte(out, at, 32);
-    put_number(out, end, n)
-}
-
-// A line of a word and a number.
-pub fn put_one(out: &mut [u8], word: &[u8], n: u64) -> usize
-    requires { length word.now + 22 ≤ length out.old }
-    ensures { Put out.old 0 (one_number word.now n) result out.new }
-{
-    let end = put_word(out, 0, word);
-    let end = put_field(out, end, n);
-    put_byte(out, end, 10)
-}
-
-// A line of a word and two numbers.
-pub fn put_two(out: &mut [u8], word: &[u8], a: u64, b: u64) -> usize
-    requires { length word.now + 43 ≤ length out.old }
-    ensures { Put out.old 0 (two_numbers word.now a b) result out.new }
-{
-    let end = put_word(out, 0, word);
-    let end = put_field(out, end, a);
-    let end = put_field(out, end, b);
-    put_byte(out, end, 10)
-}
-
+#[tactic(auto, using(crate::proofs::Slots::byte_laws))]
 // A slot's choice as it is shown: a dot for idle, else the task's number.
 fn slot_byte(choice: u8) -> u8
     requires { Choice choice }
     ensures { result ≡ slot_byte choice }
 {
-    if choice == 255 {
-        return 46;
+    if choice == IDLE {
+        return b'.';
     }
-    49 + choice
-}
-
-// A slot in a column, with the line's end after the last of a line.
-fn put_slot(out: &mut [u8], at: usize, column: usize, choice: u8) -> usize
-    requires { Choice choice × (at + length (slot_text column choice) ≤ length out.old) }
-    ensures { Put out.old at (slot_text column choice) result out.new }
-{
-    let end = put_byte(out, at, slot_byte(choice));
-    if column == 63 {
-        return put_byte(out, end, 10);
-    }
-    end
-}
-
-// The slots, 64 to a line.
-pub fn put_slots(out: &mut [u8], at: usize, slots: &[u8]) -> usize
-    requires { Showable slots.now out.old at }
-    ensures { Put out.old at (slot_lines 0 slots.now) result out.new }
-{
-    let mut end = at;
-    let mut i = 0;
-    while i < slots.len() {
-        end = put_slot(out, end, i % 64, slots[i]);
-        i += 1;
-    }
-    if i % 64 == 0 {
-        return end;
-    }
-    put_byte(out, end, 10)
-}
-
-// As much of a word as there is room for.
-pub fn put_cut(out: &mut [u8], at: usize, word: &[u8]) -> usize
-    requires { at ≤ length out.old }
-    ensures { PutCut out.old at word.now result out.new }
-{
-    let room = out.len() - at;
-    if room < word.len() {
-        return put_word(out, at, &word[..room]);
-    }
-    put_word(out, at, word)
+    b'1' + choice
 }

@@ -1,17 +1,17 @@
 -- What a slot does: to one task, as the code tests it, and to all tasks, with what the loop over them keeps.
 use mathlib.Core.Path.{◌≡◌, refl, sym, ap, ◌∙◌}
 use mathlib.Core.Logic.{◌⊎◌, inl, inr}
-use mathlib.Core.Bool.{Bool, true, false, not, cond, ◌&&◌, and-false, and-true, and_assoc}
+use mathlib.Core.Bool.{Bool, true, false, cond, ◌&&◌, and-false, and-true, and_assoc}
 use mathlib.Core.List.{List, [], ◌∷◌}
 use Prim.Native.Nat.{ℕ, suc, ◌+◌, ◌%◌, ◌≤◌, ◌<◌}
 use native.Mathlib.Nat.{mod-zero, mod-lt, mod_self, mod-eq_of_lt, suc-mod}
 use native.Mathlib.Numerals.{add-one}
 use native.Mathlib.Omega.{arith}
-use borrow.Author.Tests.{eq-eqb, ne_eqb, eqb-true, eqb-false, not-true}
+use borrow.Author.Tests.{eq-eqb, ne_eqb, eqb-true, eqb-false}
 use lib.Dec.{eqb}
 use lib.ListN.{length, get_or, drop, set, replicate, drop_of_length-le}
 use lib.Seq.{drop-cons}
-use Rattle.rules.specs.Tasks.{Task, no_task, span, standing, is_done}
+use Rattle.rules.specs.Tasks.{Task, no_task, standing, is_done}
 use Rattle.rules.specs.Positions.{Position, each, every, allowed, passed, ended, starts, restarted, next, in_time, live_position, ends_well, ends_live, legal}
 use Rattle.rules.proofs.Laws.{le-or-lt}
 use Rattle.tasks.specs.declared.TaskSet.{TaskSet}

@@ -1,20 +1,22 @@
 -- Laws of a timed task: where progress stands, entry by entry, and what its length says of laxity.
 use mathlib.Core.Path.{◌≡◌, refl, sym, ap, ◌∙◌}
-use mathlib.Core.Bool.{Bool, true, false, not, cond, ◌&&◌, ◌||◌, and-true}
+use mathlib.Core.Bool.{Bool, true, false, not, cond, ◌&&◌, ◌||◌, and-true, and-false}
 use mathlib.Core.List.{List}
 use Prim.Native.Nat.{ℕ, suc, ◌+◌, ◌-◌, ◌%◌, ◌≤◌, ◌<◌}
 use native.Mathlib.Nat.{mod-zero, mod-eq_of_lt}
 use native.Mathlib.Numerals.{add-one}
 use native.Mathlib.Omega.{arith}
-use borrow.Author.Tests.{eqb-true, eqb-false, eq-eqb, ne_eqb, not-true, not-false, lt-ltb, le-ltb, le-leb, lt-leb}
+use borrow.Author.Tests.{eqb-true, eqb-false, eq-eqb, ne_eqb, lt-ltb, le-ltb, le-leb, lt-leb}
 use lib.IntN.{ℤ, pos}
+use mathlib.Core.Logic.{◌⊎◌, inl, inr}
+use Rattle.rules.proofs.Laws.{le-or-lt}
 use lib.Signed.{le_z}
 use mir.Syntax.{w16, w32}
 use mir.Val.{Fits, SFits, to_z, of_z}
 use mir.Facts.{to_z-of_z}
 use lib.Dec.{leb, eqb}
-use lib.ListN.{length, get_or, take, drop, drop_of_length-le, length-take}
-use lib.Seq.{drop-cons, get_or-take}
+use lib.ListN.{length, get_or, take, drop, drop_of_length-le}
+use lib.Seq.{drop-cons}
 use Rattle.rules.specs.Tasks.{Task, is_done, standing, Standing, ready, waiting, done, within, sum, span}
 use Rattle.rules.specs.Positions.{moved, in_time, laxity}
 use Rattle.tasks.specs.declared.timed.Timed.{Timed}
@@ -27,65 +29,44 @@ use Rattle.tasks.specs.Slots.{onward, well_at, well_after}
 use Rattle.tasks.proofs.Slotwise.{starts-full, pass-over, pass-amid}
 use Rattle.tasks.proofs.OneTask.{undone-below, done-from, undone-till, in-time-done, in-time-left, pattern-short, pattern-take}
 
-module _ (a b : Standing) (ns : List ℕ) (i p : ℕ) where
+-- of two kinds by turns, that of entry i
+abbrev pub turn : Standing → Standing → ℕ → Standing
+turn a b i = cond (eqb (i % 2) 0) a b
+
+turn-next : (a b : Standing) (i : ℕ) → turn b a i ≡ turn a b (i + 1)
+turn-next a b i = go (le-or-lt (i % 2) 0)
+  where
+    go : (i % 2 ≤ 0) ⊎ (0 < i % 2) → turn b a i ≡ turn a b (i + 1)
+    go (inl h) = rw (eq-eqb (i % 2) 0 (omega arith), ne_eqb ((i + 1) % 2) 0 (λ z. omega arith))
+    go (inr h) = rw (ne_eqb (i % 2) 0 (λ z. omega arith), eq-eqb ((i + 1) % 2) 0 (omega arith))
+
+-- how progress stands in the entries from i on
+abbrev pub rest_stands : List ℕ → ℕ → ℕ → Standing
+rest_stands ns i p = within (turn ready waiting i) (turn waiting ready i) (drop i ns) p
+
+module _ (ns : List ℕ) (i p : ℕ) where
   -- inside entry i
-  pub within-here : i < length ns → p < get_or ns i 0 → within a b (drop i ns) p ≡ a
+  within-here : i < length ns → p < get_or ns i 0 → rest_stands ns i p ≡ turn ready waiting i
   unfolding within
   within-here h k = rw (drop-cons ns i 0 h, lt-ltb p (get_or ns i 0) k)
 
+  pub within-step : i < length ns → p < get_or ns i 0 → i % 2 ≡ 0 → rest_stands ns i p ≡ ready
+  within-step h k e = within-here h k ∙ rw (eq-eqb (i % 2) 0 e)
+
+  pub within-wait : i < length ns → p < get_or ns i 0 → (i % 2 ≡ 0 → ⊥) → rest_stands ns i p ≡ waiting
+  within-wait h k n = within-here h k ∙ rw (ne_eqb (i % 2) 0 n)
+
   -- past it
-  pub within-more : i < length ns → get_or ns i 0 ≤ p → within a b (drop i ns) p ≡ within b a (drop (i + 1) ns) (p - get_or ns i 0)
+  pub within-more : i < length ns → get_or ns i 0 ≤ p → rest_stands ns i p ≡ rest_stands ns (i + 1) (p - get_or ns i 0)
   unfolding within
-  within-more h k = rw (add-one, drop-cons ns i 0 h, le-ltb p (get_or ns i 0) k)
+  within-more h k = rw (← turn-next ready waiting i, ← turn-next waiting ready i, drop-cons ns i 0 h, le-ltb p (get_or ns i 0) k, add-one)
 
   -- past all
-  pub within-end : length ns ≤ i → within a b (drop i ns) p ≡ done
+  pub within-end : length ns ≤ i → rest_stands ns i p ≡ done
   unfolding within
   within-end h = rw (drop_of_length-le ns h)
 
--- the standing inside entry i
-abbrev pub turn : ℕ → Standing
-turn i = cond (eqb (i % 2) 0) ready waiting
-
-turn-on : (i : ℕ) → turn (i + 1 + 1) ≡ turn i
-turn-on i = let e : (i + 1 + 1) % 2 ≡ i % 2 = omega arith in ap (λ k. cond (eqb k 0) ready waiting) e
-
--- progress p stands as `left` does in the entries from i on
-abbrev pub Stands : Timed → ℕ → ℕ → ℕ → Type 0
-Stands t p i left = within (turn i) (turn (i + 1)) (drop i (take t.entries t.pattern)) left ≡ standing (timed_task t) p
-
-pub stands_start : (t : Timed) (p : ℕ) → Stands t p 0 p
-unfolding standing timed_task
-stands_start t p = refl
-
-module _ (t : Timed) (p i left : ℕ) (v : Stands t p i left) (seven : 7 ≡ length t.pattern) where
-  abbrev ns : List ℕ
-  ns = take t.entries t.pattern
-
-  pub stands_end : t.entries ≤ i → standing_of Done ≡ standing (timed_task t) p
-  unfolding standing_of
-  stands_end h = sym (within-end (turn i) (turn (i + 1)) ns i left (omega (arith, length-take t.entries t.pattern))) ∙ v
-
-  module _ (u : ℕ) (units : u ≡ get_or t.pattern i 0) (h : i < t.entries) where
-    inside : i < length ns
-    inside = let f = t.few in omega (arith, length-take t.entries t.pattern)
-
-    unit-is : get_or ns i 0 ≡ u
-    unit-is = get_or-take t.entries t.pattern i 0 h ∙ sym units
-
-    pub stands-in : left < u → (s : stands.Standing) → turn i ≡ standing_of s → standing_of s ≡ standing (timed_task t) p
-    stands-in k s e = sym e ∙ sym (within-here (turn i) (turn (i + 1)) ns i left inside (rw unit-is k)) ∙ v
-
-    pub stands-ready : left < u → i % 2 ≡ 0 → standing_of Ready ≡ standing (timed_task t) p
-    unfolding standing_of
-    stands-ready k e = stands-in k Ready (rw e)
-
-    pub stands-waiting : left < u → (i % 2 ≡ 0 → ⊥) → standing_of Waiting ≡ standing (timed_task t) p
-    unfolding standing_of
-    stands-waiting k e = stands-in k Waiting (rw (ne_eqb (i % 2) 0 e))
-
-    pub stands_more : u ≤ left → Stands t p (i + 1) (left - u)
-    stands_more k = rw (turn-on i, ← unit-is) (sym (within-more (turn i) (turn (i + 1)) ns i left inside (rw unit-is k)) ∙ v)
+pub ruleset withins = (within-step, within-wait, within-more, within-end)
 
 -- ── the time since release ──────────────────────────────────────────────────
 
@@ -126,35 +107,24 @@ module _ (t : code.Task) (n : ℕ) (seven : length t.pattern ≡ 7) (many : n �
 
 -- ── the end of a slot ───────────────────────────────────────────────────────
 
-period-is : (t : Timed) → (timed_task t).period ≡ t.period
-unfolding timed_task
-period-is t = refl
-
-module _ (t : Timed) (since p : ℕ) (w : Bool) (timely : w ≡ in_time since (timed_task t) p) where
-  pub well-late : not w ≡ true → false ≡ well_at since (timed_task t) p
-  unfolding well_at
-  well-late h = rw (← timely, not-true w h)
-
+module _ (t : Timed) (since p : ℕ) (r : Bool) (again : r ≡ eqb since (timed_task t).period) where
   -- its job goes on
-  pub well-on : not w ≡ false → (q : ℕ) → q ≡ t.period → (since ≡ q → ⊥) → not (eqb since q) ≡ well_at since (timed_task t) p
+  pub well-amid : r ≡ false → (w : Bool) → w ≡ in_time since (timed_task t) p → w ≡ well_at since (timed_task t) p
   unfolding well_at
-  well-on h q e n = let k : eqb since (timed_task t).period ≡ false = ne_eqb since (timed_task t).period (λ z. n (z ∙ period-is t ∙ sym e)) in rw (← timely, not-false w h, k, ne_eqb since q n)
+  well-amid h w e = rw (← again, h, ← e) (sym (and-true w))
 
   -- its job starts again, and was not done
-  pub well-undone : not w ≡ false → (q : ℕ) → q ≡ t.period → since ≡ q → p < t.length → leb t.length p ≡ well_at since (timed_task t) p
+  pub well-undone : r ≡ true → p < t.length → leb t.length p ≡ well_at since (timed_task t) p
   unfolding well_at
-  well-undone h q e f l =
-      let k = eq-eqb since (timed_task t).period (f ∙ e ∙ sym (period-is t)) in
-      rw (← timely, not-false w h, k, undone-till (timed_task t) t.length p (whole-is t) l) (lt-leb t.length p l)
+  well-undone h l =
+      rw (← again, h, undone-till (timed_task t) t.length p (whole-is t) l) (lt-leb t.length p l ∙ sym (and-false (in_time since (timed_task t) p)))
 
   -- it was done
-  pub well-again : not w ≡ false → (q : ℕ) → q ≡ t.period → since ≡ q → t.length ≤ p → (r : Bool) → r ≡ in_time 0 (timed_task t) 0 → r ≡ well_at since (timed_task t) p
+  pub well-again : r ≡ true → t.length ≤ p → (w : Bool) → w ≡ in_time 0 (timed_task t) 0 → w ≡ well_at since (timed_task t) p
   unfolding well_at
-  well-again h q e f l r k =
-      let m = eq-eqb since (timed_task t).period (f ∙ e ∙ sym (period-is t)) in
-      rw (← timely, not-false w h, m, done-from (timed_task t) t.length p (whole-is t) l) k
+  well-again h l w e = rw (← again, h, done-from (timed_task t) t.length p (whole-is t) l, ← in-time-done (timed_task t) t.length p (whole-is t) since l) e
 
-pub ruleset wells = (well-late, well-on, well-undone, well-again)
+pub ruleset wells = (well-amid, well-undone, well-again)
 
 -- at the end of a slot of any period, 0 too
 module _ (t : ℕ) (τ : Task) (p : ℕ) where

@@ -52,19 +52,18 @@ impl Timed {
     ghost use Rattle.tasks.specs.Timed.{timed_task};
 
     // Ready inside a step, waiting inside a wait, done at L.
+    #[tactic(auto, using(crate::proofs::Timing::withins), unfolding(crate::specs::Timed::timed_task, crate::specs::Views::standing_of, rules::specs::Tasks::standing))]
     pub fn standing_at(&self, progress: u16) -> Standing
         ensures { standing_of result ≡ standing (timed_task self.now) progress }
     {
-        let mut left = progress;
-        // (By its number: two standings that change places with each entry miss the planner's bar of speed.)
-        for i in 0..self.entries {
-            let units = u16::from(self.pattern[i]);
+        let mut left = u32::from(progress);
+        for (i, entry) in self.pattern[..self.entries].iter().enumerate() {
+            let units = u32::from(*entry);
             if left < units {
-                return if i % 2 == 0 {
-                    Standing::Ready
-                } else {
-                    Standing::Waiting
-                };
+                if i % 2 == 0 {
+                    return Standing::Ready;
+                }
+                return Standing::Waiting;
             }
             left -= units;
         }
@@ -121,28 +120,31 @@ impl Timed {
         self.length <= progress || 0 <= self.laxity_at(since, progress)
     }
 
+    // A job starts again at the end of a slot: the time since release is the period.
+    #[tactic(auto, unfolding(crate::specs::Timed::timed_task))]
+    fn restarts(&self, since: Since) -> bool
+        ensures { result ≡ eqb since.slots (timed_task self.now).period }
+    {
+        since.slots == u32::from(self.period)
+    }
+
     // The progress in the next slot, from that at the end of a slot: 0 where a job starts again.
-    #[tactic(auto, using(crate::proofs::Timing::mods), unfolding(crate::specs::Timed::timed_task))]
     pub fn begun(&self, since: Since, progress: u16) -> u16
         ensures { result ≡ cond (eqb since.slots (timed_task self.now).period) 0 progress }
     {
-        if since.slots == u32::from(self.period) {
-            return 0;
-        }
-        progress
+        if self.restarts(since) { 0 } else { progress }
     }
 
     // It ends a slot well and begins the next one live, from the progress at the slot's end: in time, and where its job starts again done, with
-    // time for the new one.
+    // time for the new one. (A task that is done is in time.)
     #[tactic(auto, using(crate::proofs::Timing::wells))]
     pub fn ends_well(&self, since: Since, progress: u16) -> bool
         ensures { result ≡ well_at since.slots (timed_task self.now) progress }
     {
-        if !self.in_time(since, progress) {
-            return false;
+        if self.restarts(since) {
+            return self.length <= progress && self.in_time(Since { slots: 0 }, 0);
         }
-        since.slots != u32::from(self.period)
-            || (self.length <= progress && self.in_time(Since { slots: 0 }, 0))
+        self.in_time(since, progress)
     }
 
     // The progress after a slot: it rises if the task was chosen and ready, or waited.

@@ -1,253 +1,158 @@
 // The three kinds of cases.
-ghost use Rattle.std.specs.Prelude.{◌≡◌, ◌<◌, ◌≤◌, length};
-
-use crate::read::{Field, field_behind};
-use crate::write::{few, say, say_number};
-use crate::{read, records, write};
+use crate::read::{Fields, number, values};
+use crate::records;
+use crate::write::{Faults, Set, Text, into_signs, slot_sign};
 use planner::{Answer, Word};
 use player::State;
+use std::alloc::Global;
 use std::io;
 use std::io::Write;
-use tasks::TaskSet;
+use tasks::{IDLE, TaskSet};
+
+// What a lent table and area hold, numbers that no reply holds.
+const NO_SLOT: u8 = 238;
+
+const NO_NUMBER: u16 = 60000;
+
+// The most records that are shown.
+const SHOWN: usize = 12;
 
 // The reader's reply to a list.
-pub fn reading<W: Write>(out: &mut W, text: &[u8]) -> io::Result<()> {
-    let r = list::read(text);
-    say_number(out, b"  refusal ", r.refusal as usize)?;
-    say_number(out, b", line ", r.line)?;
-    say_number(out, b", start ", r.start)?;
-    say_number(out, b", size ", r.size)?;
-    say(out, b": ")?;
-    if r.refusal == 0 {
-        let s = r.set;
-        write::set(out, s)?;
-        return say(out, b"\n");
+pub fn reading<W: Write>(out: &mut W, list: &[u8]) -> io::Result<()> {
+    match list::read(list) {
+        Ok(set) => writeln!(out, "  refusal 0, line 0, start 0, size 0: {}", Set(&set)),
+        Err(e) => writeln!(
+            out,
+            "  refusal {}, line {}, start {}, size {}: \"{}\"",
+            u8::from(e.why),
+            e.line,
+            e.start,
+            e.text.len(),
+            Text(e.text)
+        ),
     }
-    say(out, b"\"")?;
-    write::bytes(out, list::refused_line(text))?;
-    say(out, b"\"\n")
 }
 
-fn at_most(n: usize, most: usize) -> usize
-    ensures { result ≤ most }
-{
-    if most < n {
-        return most;
-    }
-    n
-}
-
-// Where so many records end, if they fit an area.
-fn records_end(count: usize, width: usize) -> usize
-    requires { width ≤ 9 }
-    ensures { result ≤ 216000 }
-{
-    at_most(count, 24000) * width
-}
-
-// The lent table and area after a reply with so many records. Where all had room, and there are at most twelve, they are shown, in order:
-// their order in the area is free, and so is which remain where there was no room for all.
+// The lent table and area after a reply with so many records for so many tasks. Where all had room, and there are few, they are shown, in
+// order: their order in the area is free, and so is which remain where there was no room for all.
 fn buffers<W: Write>(
+    alloc: Global,
     out: &mut W,
     table: &mut [u8],
     area: &[u16],
+    tasks: u8,
     count: usize,
-    width: usize,
     shown: bool,
-) -> io::Result<()>
-    requires { (0 < width) × (width ≤ 9) }
-{
-    write::into_signs(table);
-    say(out, b"  table \"")?;
-    write::bytes(out, table)?;
-    say_number(out, b"\"\n  area ", count)?;
-    let end = records_end(count, width);
-    say_number(out, b" records, ", records::kept(area, end))?;
-    say(out, b" kept")?;
-    if !shown {
-        return say(out, b"\n");
+) -> io::Result<()> {
+    into_signs(table);
+    let numbers = count.saturating_mul(usize::from(tasks) + 1);
+    let kept = area
+        .iter()
+        .skip(numbers)
+        .filter(|n| **n == NO_NUMBER)
+        .count();
+    write!(
+        out,
+        "  table \"{}\"\n  area {count} records, {kept} kept",
+        Text(table)
+    )?;
+    if shown && count <= SHOWN {
+        records::all(alloc, out, area, count, tasks)?;
     }
-    if 12 < count {
-        return say(out, b"\n");
-    }
-    records::all(out, area, count, end, width)?;
-    say(out, b"\n")
+    out.write_all(b"\n")
 }
 
 // The planner's reply to a set, and what it leaves in the table and the area.
 fn planned<W: Write>(
+    alloc: Global,
     out: &mut W,
-    set: TaskSet,
+    set: &TaskSet,
     table: &mut [u8],
     area: &mut [u16],
 ) -> io::Result<()> {
-    let width = few(set.count) + 1;
-    let answer = planner::plan(set, table, area);
-    match answer {
-        Answer::Refused(n) => {
-            say_number(out, b"  refused ", n as usize)?;
-            say(out, b"\n")?;
-            buffers(out, table, area, 0, width, false)
+    match planner::plan(set, table, area) {
+        Ok(Answer { word, dead }) => {
+            let name = match word {
+                Word::Schedule => "schedule",
+                Word::Infeasible => "infeasible",
+                Word::OutOfRoom => "out of room",
+            };
+            writeln!(out, "  {name} {dead}")?;
+            let shown = !matches!(word, Word::OutOfRoom);
+            buffers(alloc, out, table, area, set.count, dead, shown)
         }
-        Answer::Answered(word, count) => match word {
-            Word::Schedule => {
-                say_number(out, b"  schedule ", count)?;
-                say(out, b"\n")?;
-                buffers(out, table, area, count, width, true)
-            }
-            Word::Infeasible => {
-                say_number(out, b"  infeasible ", count)?;
-                say(out, b"\n")?;
-                buffers(out, table, area, count, width, true)
-            }
-            Word::OutOfRoom => {
-                say_number(out, b"  out of room ", count)?;
-                say(out, b"\n")?;
-                buffers(out, table, area, count, width, false)
-            }
-        },
+        Err(refusal) => {
+            writeln!(out, "  refused {}", u8::from(refusal))?;
+            buffers(alloc, out, table, area, set.count, 0, false)
+        }
     }
-}
-
-// The number behind the space at `at`, and where the line goes on.
-#[derive(Clone, Copy)]
-struct Number {
-    value: usize,
-    next: usize,
-}
-
-fn number_behind(rest: &[u8], at: usize) -> Number
-    ensures { result.next ≤ length rest.now }
-{
-    if rest.len() <= at {
-        return Number {
-            value: 0,
-            next: rest.len(),
-        };
-    }
-    let f = field_behind(rest, at);
-    let start = f.start;
-    let end = f.end;
-    Number {
-        value: read::number(&rest[start..end]),
-        next: end,
-    }
-}
-
-// Buffers to lend, of numbers that no reply holds.
-fn lent_table() -> [u8; 5000]
-    ensures { 5000 ≡ length result }
-{
-    [238; 5000]
-}
-
-fn lent_area() -> [u16; 24000]
-    ensures { 24000 ≡ length result }
-{
-    [60000; 24000]
 }
 
 // A plan: the list, the length of the table and that of the area.
-pub fn planning<W: Write>(out: &mut W, rest: &[u8], text: &[u8]) -> io::Result<()> {
-    let r = list::read(text);
-    if r.refusal != 0 {
-        return reading(out, text);
-    }
-    let set = r.set;
-    let first = number_behind(rest, 0);
-    let second = number_behind(rest, first.next);
-    let slots = at_most(first.value, 5000);
-    let numbers = at_most(second.value, 24000);
-    let mut table = lent_table();
-    let mut area = lent_area();
-    planned(out, set, &mut table[..slots], &mut area[..numbers])
+pub fn planning<W: Write>(
+    alloc: Global,
+    out: &mut W,
+    list: &[u8],
+    mut fields: Fields<'_>,
+) -> io::Result<()> {
+    let Ok(set) = list::read(list) else {
+        return reading(out, list);
+    };
+    let slots = fields.next().map_or(0, number).min(5000);
+    let numbers = fields.next().map_or(0, number).min(24000);
+    let mut table = vec![in alloc; NO_SLOT; slots]?;
+    let mut area = vec![in alloc; NO_NUMBER; numbers]?;
+    planned(alloc, out, &set, &mut table, &mut area)
 }
 
 // A tick with the table and the reports as the script writes them, and its reply. The new state.
-fn tick<W: Write>(out: &mut W, state: State, slots: &[u8], word: &[u8]) -> io::Result<State> {
-    let mut table = [0u8; 8192];
-    let length = read::values(slots, b'1', &mut table);
-    let mut reports = [0u8; 8192];
-    let n = read::values(word, b'0', &mut reports);
-    say_number(out, b"  ", state.slot as usize)?;
-    say(out, b": ")?;
-    say(out, word)?;
-    let t = player::tick(state, &table[..length], &reports[..n]);
-    let after = t.state;
-    if t.refusal != 0 {
-        say_number(out, b" -> refused ", t.refusal as usize)?;
-        say(out, b"\n")?;
-        return Ok(after);
+fn tick<W: Write>(
+    alloc: Global,
+    out: &mut W,
+    state: State,
+    table: &[u8],
+    signs: &[u8],
+) -> io::Result<State> {
+    let reports = values(alloc, signs, b'0')?;
+    write!(out, "  {}: ", state.slot)?;
+    out.write_all(signs)?;
+    match player::tick(state, table, &reports) {
+        Ok(ticked) => {
+            let runner = char::from(slot_sign(ticked.runner.unwrap_or(IDLE)));
+            let used = ticked.state.set.used().len();
+            writeln!(out, " -> {runner} {}", Faults(&ticked.faults[..used]))?;
+            Ok(ticked.state)
+        }
+        Err(refusal) => {
+            writeln!(out, " -> refused {}", u8::from(refusal))?;
+            Ok(state)
+        }
     }
-    say(out, b" -> ")?;
-    say(out, &[write::slot_sign(t.runner)])?;
-    say(out, b" ")?;
-    let s = after.set;
-    let f = t.faults;
-    write::faults(out, f, few(s.count))?;
-    say(out, b"\n")?;
-    Ok(after)
 }
 
-// Where the table begins in a field that begins with `=`; in another, the field's own start.
-fn table_start(rest: &[u8], start: usize, end: usize) -> usize
-    requires { (start ≤ end) × (end ≤ length rest.now) }
-    ensures { result ≤ end }
-{
-    if start == end {
-        return start;
-    }
-    if rest[start] == b'=' {
-        return start + 1;
-    }
-    start
-}
-
-// Ticks with the reports of the fields behind the table. A field that begins with `=` is the table from there on.
-fn ticks<W: Write>(out: &mut W, rest: &[u8], table: Field, first: State) -> io::Result<()>
-    requires { (table.start ≤ table.end) × (table.end ≤ length rest.now) }
-{
-    let mut state = first;
-    let mut from = table.start;
-    let mut to = table.end;
-    let mut at = table.end;
-    while at < rest.len() {
-        let f = field_behind(rest, at);
-        let start = f.start;
-        let end = f.end;
-        let behind = table_start(rest, start, end);
-        if behind == start {
-            state = tick(out, state, &rest[from..to], &rest[start..end])?;
-            at = end;
-        } else {
-            from = behind;
-            to = end;
-            at = end;
+// A play: the list, the table and the reports of each tick. A field that begins with `=` is the table from there on.
+pub fn playing<W: Write>(
+    alloc: Global,
+    out: &mut W,
+    list: &[u8],
+    mut fields: Fields<'_>,
+) -> io::Result<()> {
+    let Ok(set) = list::read(list) else {
+        return reading(out, list);
+    };
+    let Some(field) = fields.next() else {
+        return Ok(());
+    };
+    let mut table = values(alloc, field, b'1')?;
+    let mut state = match player::start(&set, &table) {
+        Ok(state) => state,
+        Err(refusal) => return writeln!(out, "  refused {}", u8::from(refusal)),
+    };
+    for field in fields {
+        match field {
+            [b'=', signs @ ..] => table = values(alloc, signs, b'1')?,
+            signs => state = tick(alloc, out, state, &table, signs)?,
         }
     }
     Ok(())
-}
-
-// A play: the list, the table and the reports of each tick.
-pub fn playing<W: Write>(out: &mut W, rest: &[u8], text: &[u8]) -> io::Result<()> {
-    let r = list::read(text);
-    if r.refusal != 0 {
-        return reading(out, text);
-    }
-    if rest.len() == 0 {
-        return Ok(());
-    }
-    let f = field_behind(rest, 0);
-    let start = f.start;
-    let end = f.end;
-    let mut table = [0u8; 8192];
-    let n = read::values(&rest[start..end], b'1', &mut table);
-    let set = r.set;
-    let begun = player::start(set, &table[..n]);
-    if begun.refusal != 0 {
-        say_number(out, b"  refused ", begun.refusal as usize)?;
-        return say(out, b"\n");
-    }
-    let state = begun.state;
-    ticks(out, rest, f, state)
 }

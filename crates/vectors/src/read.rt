@@ -1,206 +1,109 @@
 // The parts of a script line.
-ghost use Rattle.std.specs.Prelude.{◌≡◌, ◌<◌, ◌≤◌, length, take};
+ghost use Rattle.std.specs.Prelude.{◌≡◌, ◌<◌, ◌==◌, IfSome, length, position};
+ghost use Rattle.std.specs.Iterator.{at_most};
 
-// Where a byte stands first, at or behind `from`: the line's length if it doesn't.
-pub fn find(line: &[u8], from: usize, byte: u8) -> usize
-    requires { from ≤ length line.now }
-    ensures { (from ≤ result) × (result ≤ length line.now) }
+use std::alloc::{AllocError, Global};
+
+// The most bytes of a list, and the most signs of a table or of reports.
+const MOST: usize = 8192;
+
+// Where the first space stands.
+fn space(line: &[u8]) -> Option<usize>
+    ensures { result ≡ position (λ byte. byte == 32) line.now }
 {
-    let mut at = from;
-    while at < line.len() {
-        if line[at] == byte {
-            return at;
-        }
-        at += 1;
+    line.iter().position(|byte| *byte == b' ')
+}
+
+// The fields of a line, each of them behind a space.
+#[derive(Drop)]
+pub struct Fields<'a>(pub &'a [u8]);
+
+impl<'a> Iterator for Fields<'a> {
+    type Item = &'a [u8];
+
+    ghost remaining = { λ s. at_most (length s.0.now) };
+
+    fn next(&mut self) -> Option<&'a [u8]> {
+        let (_, line) = self.0.split_first()?;
+        let (field, rest) = line.split_at(space(line).unwrap_or(line.len()));
+        self.0 = rest;
+        Some(field)
     }
-    at
 }
 
-#[derive(Clone, Copy)]
-pub struct Field {
-    pub start: usize,
-    pub end: usize,
-}
-
-// The field behind the space at `at`, up to the next space.
-pub fn field_behind(line: &[u8], at: usize) -> Field
-    requires { at < length line.now }
-    ensures { (at < result.start) × (result.start ≤ result.end) × (result.end ≤ length line.now) }
-{
-    let start = at + 1;
-    let end = find(line, start, b' ');
-    Field { start, end }
-}
-
-fn digit(sign: u8) -> usize
-    ensures { result < 10 }
-{
-    if sign < b'0' {
-        return 0;
+// A digit's value, and 0 for another sign.
+fn digit(sign: u8) -> usize {
+    match sign {
+        b'0'..=b'9' => usize::from(sign - b'0'),
+        _ => 0,
     }
-    if b'9' < sign {
-        return 0;
-    }
-    (sign - b'0') as usize
 }
 
-// A decimal number. Digits behind the sixth are left out.
+// A decimal number. One that is too large is the largest.
 pub fn number(word: &[u8]) -> usize {
-    let mut n: usize = 0;
-    let mut i = 0;
-    while i < word.len() {
-        if 99999 < n {
-            return n;
-        }
-        n = n * 10 + digit(word[i]);
-        i += 1;
+    let mut n = 0usize;
+    for sign in word {
+        n = n.saturating_mul(10).saturating_add(digit(*sign));
     }
     n
 }
 
+// The value of a hexadecimal digit in small letters, and 0 for another sign.
 fn hexadecimal(sign: u8) -> u8
     ensures { result < 16 }
 {
-    if sign < b'a' {
-        return digit(sign) as u8;
+    match sign {
+        b'0'..=b'9' => sign - b'0',
+        b'a'..=b'f' => sign - b'a' + 10,
+        _ => 0,
     }
-    if b'f' < sign {
-        return 0;
-    }
-    sign - b'a' + 10
 }
 
-// A byte of a list, so many times, and where the script goes on.
+// A byte of a list, so many times.
 #[derive(Clone, Copy)]
-pub struct Piece {
-    pub byte: u8,
-    pub times: usize,
-    pub next: usize,
+struct Piece {
+    byte: u8,
+    times: usize,
 }
 
-fn single(byte: u8, next: usize) -> Piece
-    ensures { result.next ≡ next }
-{
-    Piece {
-        byte,
-        times: 1,
-        next,
-    }
+fn single(byte: u8) -> Piece {
+    Piece { byte, times: 1 }
 }
 
-// A byte that stands for itself, `\n`, `\xHH`, or another byte behind a backslash.
-fn one_byte(line: &[u8], at: usize) -> Piece
-    requires { at < length line.now }
-    ensures { (at < result.next) × (result.next ≤ length line.now) }
+// What a list begins with, and what stands behind it: `\*NNNNb` is the byte b NNNN times, `\xHH` a byte by its number, `\n` a line feed.
+// Another byte stands for itself, also behind a backslash. Nothing at the quote that ends the list.
+fn next_piece(line: &[u8]) -> Option<(Piece, &[u8])>
+    ensures { IfSome result (λ found. length found.1.now < length line.now) }
 {
-    let byte = line[at];
-    let left = line.len() - at;
-    if left < 2 {
-        return single(byte, at + 1);
-    }
-    if byte != b'\\' {
-        return single(byte, at + 1);
-    }
-    let kind = line[at + 1];
-    if kind == b'n' {
-        return single(b'\n', at + 2);
-    }
-    if kind != b'x' {
-        return single(kind, at + 2);
-    }
-    if left < 4 {
-        return single(kind, at + 2);
-    }
-    let high = hexadecimal(line[at + 2]);
-    let low = hexadecimal(line[at + 3]);
-    single(high * 16 + low, at + 4)
-}
-
-// What stands at `at`: `\*NNNNb`, which is the byte b NNNN times, or one byte.
-fn next_piece(line: &[u8], at: usize) -> Piece
-    requires { at < length line.now }
-    ensures { (at < result.next) × (result.next ≤ length line.now) }
-{
-    if line.len() - at < 7 {
-        return one_byte(line, at);
-    }
-    if line[at] != b'\\' {
-        return one_byte(line, at);
-    }
-    if line[at + 1] != b'*' {
-        return one_byte(line, at);
-    }
-    let high = digit(line[at + 2]) * 1000 + digit(line[at + 3]) * 100;
-    let low = digit(line[at + 4]) * 10 + digit(line[at + 5]);
-    Piece {
-        byte: line[at + 6],
-        times: high + low,
-        next: at + 7,
-    }
-}
-
-// Puts a byte so many times behind the first `from` of a list, as far as there is space. The new size.
-fn put(list: &mut [u8], from: usize, byte: u8, times: usize) -> usize
-    requires { from ≤ length list.old }
-    ensures { result ≤ length list.new }
-{
-    let mut n = from;
-    let mut left = times;
-    while 0 < left {
-        if list.len() <= n {
-            return n;
+    match line {
+        [] | [b'"', ..] => None,
+        [b'\\', b'*', a, b, c, d, byte, rest @ ..] => {
+            let times = number(&[*a, *b, *c, *d]);
+            Some((Piece { byte: *byte, times }, rest))
         }
-        list[n] = byte;
-        n += 1;
-        left -= 1;
-    }
-    n
-}
-
-// The size of a list, and where the script goes on.
-#[derive(Clone, Copy)]
-pub struct Unescaped {
-    pub size: usize,
-    pub next: usize,
-}
-
-// The list from `from` up to the next quote.
-pub fn unescape(line: &[u8], from: usize, list: &mut [u8]) -> Unescaped
-    requires { from ≤ length line.now }
-    ensures prefix_len { (result.size ≤ length list.new) × (result.size ≡ length (take result.size list.new)) }
-    ensures next_in_bounds { result.next ≤ length line.now }
-{
-    let mut size = 0;
-    let mut at = from;
-    while at < line.len() {
-        if line[at] == b'"' {
-            return Unescaped { size, next: at + 1 };
+        [b'\\', b'x', high, low, rest @ ..] => {
+            Some((single(hexadecimal(*high) * 16 + hexadecimal(*low)), rest))
         }
-        let p = next_piece(line, at);
-        size = put(list, size, p.byte, p.times);
-        at = p.next;
+        [b'\\', b'n', rest @ ..] => Some((single(b'\n'), rest)),
+        [b'\\', byte, rest @ ..] | [byte, rest @ ..] => Some((single(*byte), rest)),
     }
-    Unescaped { size, next: at }
 }
 
-// Signs as numbers, counted from the sign of 0; a sign below it is 255. The number of them.
-pub fn values(word: &[u8], zero: u8, out: &mut [u8]) -> usize
-    ensures { (result ≤ length out.new) × (result ≡ length (take result out.new)) }
-{
-    let mut i = 0;
-    while i < word.len() {
-        if out.len() <= i {
-            return i;
-        }
-        out[i] = value(word[i], zero);
-        i += 1;
+// The list up to the next quote, as far as there is space, and what stands behind the quote.
+pub fn unescape(alloc: Global, line: &[u8]) -> Result<(Vec<u8>, &[u8]), AllocError> {
+    let mut list = Vec::new(alloc);
+    let mut rest = line;
+    while let Some((piece, behind)) = next_piece(rest) {
+        list.resize(list.len().saturating_add(piece.times).min(MOST), piece.byte)?;
+        rest = behind;
     }
-    i
+    Ok((list, rest.get(1..).unwrap_or(&[])))
 }
 
-fn value(sign: u8, zero: u8) -> u8 {
-    if sign < zero {
-        return 255;
-    }
-    sign - zero
+// Signs as numbers, counted from the sign of 0; a sign below it is 255.
+pub fn values(alloc: Global, word: &[u8], zero: u8) -> Result<Vec<u8>, AllocError> {
+    word.iter()
+        .take(MOST)
+        .map(|sign| sign.checked_sub(zero).unwrap_or(255))
+        .collect(alloc)
 }

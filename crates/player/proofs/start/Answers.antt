@@ -14,7 +14,7 @@ returns-then-table-from c =
     let t = c.args.table.now in
     let k = c.in_ok-hyper.ensures.admitted in
     elim c.then-table-from.branch [
-      then-table-from-via-then-table-from w ↦ refused-length s t k.0 c.in_ok-hyper.hyper k.1 (λ e. w.if-table-from.true (e ∙ sym c.from.ensures))
+      | then-table-from-via-then-table-from w ↦ refused-length s t k.0 c.in_ok-hyper.hyper k.1 (λ e. w.if-table-from.true (e ∙ sym c.from.ensures))
       | then-table-from-via-else-table-from+then-not-is_live w ↦ refused-table s t k.0 c.in_ok-hyper.hyper k.1 (w.if-table-from.false ∙ c.from.ensures) w.is_live.result w.is_live.ensures w.if-not-is_live.true
     ]
 

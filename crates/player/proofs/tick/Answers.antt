@@ -1,6 +1,5 @@
 -- Each refusal is that of the rules, and so is what an accepted tick gives.
-use mathlib.Core.Path.{◌≡◌, ◌∙◌, sym, ap}
-use Prim.Native.Nat.{◌<◌}
+use mathlib.Core.Path.{◌≡◌, ◌∙◌, sym}
 use native.Mathlib.Omega.{arith}
 use borrow.Author.Rules.{rules}
 use lib.ListN.{length}
@@ -35,4 +34,4 @@ returns c =
     let leads = rw (c.from-3.ensures) at c.advance-legal.ensures.leads in
     let lands = rw (c.from-3.ensures) at c.advance-legal.ensures.lands in
     accepted _ _ _ c.in_ok-formed.formed c.in_ok-formed.ensures (c.if-reports-from.false ∙ c.from.ensures) (c.if-table-from.false ∙ c.from-2.ensures) long _ leads c.if-not-legal.false _ lands
-        _ c.slot_after.ensures _ c.turns-runner.ensures.jobs _ c.turns-runner.ensures.faults _ c.turns-runner.ensures.runner
+    _ c.slot_after.ensures _ c.turns-runner.ensures.jobs _ c.turns-runner.ensures.faults _ c.turns-runner.ensures.runner

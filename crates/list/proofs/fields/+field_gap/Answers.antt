@@ -20,7 +20,7 @@ field-returns-in_ok-with-in-len1-up-2 t c = λ ws p e b s.
     let a = c.args in
     c.field.ensures ws (p ++ get_or a.line.now 0 0 ∷ []) e (c.in_ok-with-in-len1-up-2.ensures p b) (omega (arith, length-append p (get_or a.line.now 0 0 ∷ []))) ∙ field_on ws p a.line.now c.in-len1-up.len_at_least
 
-pub gap-returns-in_ok-with-in-Some : goal.gap-returns-in_ok-with-in-Some
-gap-returns-in_ok-with-in-Some t c = λ ws e.
+pub gap-returns : goal.gap-returns
+gap-returns t c = λ ws e.
     let l = c.args.line.now in
-    c.field.ensures ws (get_or l c.in-Some.at 0 ∷ []) e (c.in_ok-with-in-Some.ensures [] c.new.ensures) (omega arith) ∙ gap_on ws l c.in-Some.at (sym c.in-Some.ensures)
+    c.field.ensures ws (get_or l c.in-Some.at 0 ∷ []) e (c.in_ok-digits.ensures [] c.new.ensures) (omega arith) ∙ gap_on ws l c.in-Some.at (sym c.in-Some.ensures)

@@ -1,5 +1,4 @@
 -- The tidy set, and as many finished jobs as it has tasks.
-use mathlib.Core.Path.{sym}
 use Rattle.tasks.proofs.Positions.{in_use-length}
 use Rattle.player.proofs.Starts.{fresh-is}
 use Rattle.player.proofs.begin.fresh_state.Goals as goal

@@ -1,5 +1,4 @@
 -- The steps' units, and zeros behind them.
-use mathlib.Core.Path.{◌∙◌}
 use Rattle.player.proofs.Starts.{tidy-units}
 use Rattle.player.proofs.begin.tidy_task.Goals as goal
 

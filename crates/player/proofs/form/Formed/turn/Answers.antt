@@ -1,11 +1,4 @@
 -- A state of the form has a job of its form for each task.
-use mathlib.Core.Path.{ap, ◌∙◌}
-use Prim.Native.Nat.{ℕ}
-use lib.Dec.{eqb}
-use lib.ListN.{get_or}
-use Rattle.tasks.specs.Views.{no_entry, task_of}
-use Rattle.rules.specs.Jobs.{turn}
-use Rattle.player.specs.Views.{no_job, job_of}
 use Rattle.player.proofs.InForm.{job-formed, plan-anew, turn-is}
 use Rattle.player.proofs.form.Formed.turn.Goals as goal
 

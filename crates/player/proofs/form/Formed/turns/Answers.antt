@@ -3,13 +3,12 @@ use mathlib.Core.Path.{◌≡◌, ap, ◌∙◌}
 use Prim.Native.Nat.{◌≤◌, ◌<◌}
 use native.Mathlib.Omega.{arith}
 use lib.ListN.{length, get_or}
-use Rattle.rules.specs.Jobs.{Turn}
 use Rattle.rules.specs.States.{blank_job}
 use Rattle.player.specs.Reports.{report_number}
 use Rattle.player.specs.Turns.{turn_in, turn_for}
 use Rattle.player.specs.Views.{stand_of, job_of}
 use Rattle.player.proofs.InForm.{few, slot-below}
-use Rattle.player.proofs.Rounds.{Taken, turn-capped, taken-start, taken-runs, taken-rests, all-jobs, all-faults, all-runner}
+use Rattle.player.proofs.Rounds.{turn-capped, taken-start, taken-runs, taken-rests, all-jobs, all-faults, all-runner}
 use Rattle.player.proofs.form.Formed.turns.Goals.{then-taken, else-taken}
 use Rattle.player.proofs.form.Formed.turns.Goals as goal
 
@@ -31,11 +30,13 @@ loop-i-preserved c =
     let byte = get_or c.args.reports.now i 0 in
     let told = report_number c.from-in-loop-i.result in
     let taken = c.take-taken.result in
-    let same : turn_in c.turn.result told ≡ turn_for st entry i byte = c.turn.ensures told ∙ ap (turn_for st entry i) c.from-in-loop-i.ensures ∙ turn-capped st entry i byte in
-    (c.loop-i.invariant.0, elim c.if-taken.branch [
-      then-taken w ↦ rw (w.runner-is) (search taken-runs)
-      | else-taken w ↦ rw (w.runner-is) (search taken-rests)
-    ])
+    let same : turn_in c.turn.result told ≡ turn_for st entry i byte = c.turn.ensures told ∙ ap (turn_for st entry i) c.from-in-loop-i.ensures ∙ turn-capped st entry i byte in (
+      c.loop-i.invariant.0,
+      elim c.if-taken.branch [
+        | then-taken w ↦ rw (w.runner-is) (search taken-runs)
+        | else-taken w ↦ rw (w.runner-is) (search taken-rests)
+      ],
+    )
 
 pub returns : goal.returns
 returns c =

@@ -1,9 +1,0 @@
--- The loop keeps: what is read stays within the buffer. The measure is what is left.
-use Rattle.std.proofs.Common.{◌-◌, ◌≤◌, length}
-use Rattle.vectors.proofs.read_full.Given as goal
-
-abbrev pub invariant-loop-size : goal.invariant-loop-size
-invariant-loop-size g l = l.size ≤ length l.buffer
-
-abbrev pub decreases-loop-size : goal.decreases-loop-size
-decreases-loop-size g l = length l.initial.buffer - l.size

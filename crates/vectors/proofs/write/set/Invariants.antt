@@ -1,9 +1,0 @@
--- The loop keeps: the place stays within the number of tasks. The measure is what is left.
-use Rattle.std.proofs.Common.{◌-◌, ◌≤◌}
-use Rattle.vectors.proofs.write.set.Given as goal
-
-abbrev pub invariant-loop-i : goal.invariant-loop-i
-invariant-loop-i g l = l.i ≤ l.n
-
-abbrev pub decreases-loop-i : goal.decreases-loop-i
-decreases-loop-i g l = l.n - l.i
