@@ -14,12 +14,12 @@ use Rattle.rules.specs.Positions.{idle}
 use Rattle.rules.specs.Records.{SetRecord, or_else, set_in, record_refusal}
 use Rattle.rules.specs.Player as rules
 use Rattle.rules.specs.States.{StateRecord, in_use, in_use_form, rest_zero, form, tidied, as_record, is_schedule, entry_fits, start_refusal, started_or, start_reply, ticked, tick_refused, tick_refusal, ticked_or, tick_reply}
-use Rattle.rules.proofs.Lists.{tabulate-at, tabulate-length}
-use Rattle.rules.proofs.Set.Tidy.{counts, set-length, padded-take}
+use Rattle.rules.proofs.Lists.{tabulate-at, tabulate-length, and_parts}
+use Rattle.rules.proofs.Set.Tidy.{set-length, padded-take}
 use Rattle.tasks.specs.declared.TaskSet.{TaskSet}
 use Rattle.tasks.specs.declared.refusal.Refusal.{Refusal}
 use Rattle.tasks.specs.Refusals.{number_of}
-use Rattle.tasks.specs.Views.{record_of}
+use Rattle.tasks.specs.Views.{record_of, set_of}
 use Rattle.tasks.proofs.Refusals.{number-some}
 use Rattle.player.specs.declared.State.{State}
 use Rattle.player.specs.declared.Ticked.{Ticked}
@@ -140,16 +140,10 @@ unfolding ticked_or tick_answer
 tick-answer w table reports zero = refl
 tick-answer w table reports (suc k) = refl
 
--- one report for each task where the tick is accepted
-reports-told : (w : StateRecord) (table reports : List ℕ) → tick_refusal w table reports true ≡ 0 → (length reports ≡ w.set.count) × (record_refusal w.set ≡ 0)
-unfolding tick_refusal form
-reports-told w table reports e = go (eqb (record_refusal w.set) 0) refl (in_use_form (set_in w.set) (in_use w) && rest_zero w) (eqb (length reports) w.set.count) refl (entry_fits (set_in w.set) (in_use w) table) e
-  where
-    go : (a : Bool) → eqb (record_refusal w.set) 0 ≡ a → (f b : Bool) → eqb (length reports) w.set.count ≡ b → (c : Bool) → tests (a && f) b c 0 ≡ 0 → (length reports ≡ w.set.count) × (record_refusal w.set ≡ 0)
-    go true ea true true eb c e = (eqb-true (length reports) w.set.count eb, eqb-true (record_refusal w.set) 0 ea)
-    go true ea true false eb c e = absurd (omega arith)
-    go true ea false b eb c e = absurd (omega arith)
-    go false ea f b eb c e = absurd (omega arith)
+-- an accepted tick has an admissible set
+set-admitted : (w : StateRecord) (table reports : List ℕ) → tick_refusal w table reports true ≡ 0 → record_refusal w.set ≡ 0
+unfolding form
+set-admitted w table reports e = eqb-true (record_refusal w.set) 0 (and_parts (eqb (record_refusal w.set) 0) (in_use_form (set_in w.set) (in_use w) && rest_zero w) (ticked-last true w table reports e).0).0
 
 -- what a call answers, and leaves in the two buffers
 module _ (bs table reports o f : List ℕ) where
@@ -193,16 +187,15 @@ module _ (bs table reports o f : List ℕ) where
     unfolding ticked_of
     tick-refused q e = refused_by (number_of q) (rw e at number_is) (number-some q)
 
-    module _ (t : Ticked) (ok : r ≡ Ok t) where
+    -- n tasks
+    module _ (t : Ticked) (ok : r ≡ Ok t) (n : ℕ) (en : n ≡ length (set_of st.set)) where
       none : tick_refusal (state_of st) table reports true ≡ 0
       unfolding ticked_of
       none = sym (rw ok at number_is)
 
-      told : length reports ≡ (state_of st).set.count
-      told = (reports-told (state_of st) table reports none).0
-
-      pub told-few : length reports ≤ 8
-      told-few = let c = (counts (state_of st).set (reports-told (state_of st) table reports none).1).high in let e = told in omega arith
+      counted : n ≡ (state_of st).set.count
+      unfolding set_of state_of
+      counted = en ∙ set-length (state_of st).set (struct-arrays st).in_set (set-admitted (state_of st) table reports none)
 
       left-over : (e : Bool) → enough ≡ e → tick_refusal (state_of st) table reports enough ≡ cond (not e) 8 0
       left-over e q = (ticked-last enough (state_of st) table reports none).1 ∙ ap (λ e. cond (not e) 8 0) q
@@ -211,9 +204,9 @@ module _ (bs table reports o f : List ℕ) where
       unfolding ticked_or
       tick-short h = refuses 8 (called-as 8 (left-over false (rw (lt-leb 140 (length o) h))))
 
-      pub tick-narrow : 140 ≤ length o → length f < length reports → Ticks (256 * 8 + idle) o f
+      pub tick-narrow : 140 ≤ length o → length f < n → Ticks (256 * 8 + idle) o f
       unfolding ticked_or
-      tick-narrow w h = let e = told in refuses 8 (called-as 8 (left-over false (rw (le-leb 140 (length o) w, lt-leb (state_of st).set.count (length f) (omega arith)))))
+      tick-narrow w h = let e = counted in refuses 8 (called-as 8 (left-over false (rw (le-leb 140 (length o) w, lt-leb (state_of st).set.count (length f) (omega arith)))))
 
       abbrev after : rules.Ticked
       after = rules.tick (set_in (state_of st).set) table (in_use (state_of st)) reports
@@ -223,11 +216,9 @@ module _ (bs table reports o f : List ℕ) where
       answer-is = rw ok at er ∙ rw none
 
       -- a fault byte for each task
-      faults-many : length after.faults ≡ length reports
-      unfolding rules.tick
-      faults-many =
-          tabulate-length (λ i. (rules.turn_of (set_in (state_of st).set) table (in_use (state_of st)) reports i).fault) 0 (length (set_in (state_of st).set))
-          ∙ set-length (state_of st).set (struct-arrays st).in_set (reports-told (state_of st) table reports none).1 ∙ sym told
+      faults-many : length after.faults ≡ n
+      unfolding rules.tick set_of state_of
+      faults-many = tabulate-length (λ i. (rules.turn_of (set_in (state_of st).set) table (in_use (state_of st)) reports i).fault) 0 (length (set_in (state_of st).set)) ∙ sym en
 
       module _ (bytes : List ℕ) (long : length bytes ≡ 8) (each : (k : ℕ) → k < 8 → get_or bytes k 0 ≡ fault_number (get_or t.faults k None)) where
         bytes-are : bytes ≡ padded 8 0 after.faults
@@ -238,14 +229,14 @@ module _ (bs table reports o f : List ℕ) where
             (λ k h. each k (omega arith) ∙ sym (tabulate-at (λ i. fault_number (get_or t.faults i None)) 0 8 k 0 (omega arith) ∙ ap (λ i. fault_number (get_or t.faults i None)) (omega arith)))
             ∙ ap (λ (a : TickAnswer). a.faults) answer-is
 
-        shown-are : take (length reports) bytes ≡ after.faults
-        shown-are = ap (take (length reports)) bytes-are ∙ padded-take 8 0 after.faults (length reports) faults-many
+        shown-are : take n bytes ≡ after.faults
+        shown-are = ap (take n) bytes-are ∙ padded-take 8 0 after.faults n faults-many
 
-        pub tick-done : (out shown : List ℕ) → 140 ≤ length o → length reports ≤ length f → out ≡ state_bytes (state_of t.state) ++ drop 140 o → shown ≡ take (length reports) bytes ++ drop (length reports) f
+        pub tick-done : (out shown : List ℕ) → 140 ≤ length o → n ≤ length f → out ≡ state_bytes (state_of t.state) ++ drop 140 o → shown ≡ take n bytes ++ drop n f
             → Ticks (runner_number t.runner) out shown
         unfolding tick_number tick_buffer tick_faults ticked_or state_size ticked_of tick_answer
         tick-done out shown w h eo ef =
-            let e = told in
+            let e = counted in
             let c = called-as 0 (left-over true (rw (le-leb 140 (length o) w, le-leb (state_of st).set.count (length f) (omega arith)))) in
             record {
               number = rw c (ap (λ (a : TickAnswer). a.runner) answer-is);

@@ -83,7 +83,7 @@ pub fn tick_string(
         return Err(Refusal::BadState);
     };
     let ticked = tick(before, table, reports)?;
-    let n = reports.len();
+    let n = before.set.used().len();
     if next.len() < STATE_SIZE || faults.len() < n {
         return Err(Refusal::ShortBuffer);
     }

@@ -72,9 +72,9 @@ impl Job {
     fn runs_at(&self, place: usize) -> bool
         ensures { result ≡ owner_runs (stand_of self.now.stand) place (job_of self.now) }
     {
-        let step = usize::from(self.step);
+        let own = 2 * usize::from(self.step);
         match self.stand {
-            Stand::Ready => step + step == place,
+            Stand::Ready => own == place,
             Stand::Waiting | Stand::Done | Stand::Stopped(_) => false,
         }
     }
@@ -83,10 +83,10 @@ impl Job {
     fn is_late_at(&self, place: usize) -> bool
         ensures { result ≡ owner_late (stand_of self.now.stand) place (job_of self.now) }
     {
-        let step = usize::from(self.step);
+        let own = 2 * usize::from(self.step);
         match self.stand {
-            Stand::Ready => step + step < place,
-            Stand::Waiting => step + step + 1 < place,
+            Stand::Ready => own < place,
+            Stand::Waiting => own + 1 < place,
             Stand::Done | Stand::Stopped(_) => false,
         }
     }
@@ -151,8 +151,8 @@ impl TaskTurn {
     fn step_done(&self) -> Job
         ensures { job_of result ≡ step_done (task_of self.now.task) (job_of self.now.job) }
     {
-        let step = usize::from(self.job.step);
-        if step + step + 1 < self.task.fields() {
+        let wait = 2 * usize::from(self.job.step) + 1;
+        if wait < self.task.fields() {
             return Job {
                 stand: Stand::Waiting,
                 given: 0,
@@ -162,12 +162,12 @@ impl TaskTurn {
         Job::done()
     }
 
-    // Every slot of the step was given.
-    fn is_used_up(&self) -> bool
-        ensures { result ≡ eqb self.now.job.given (written (task_of self.now.task) self.now.job.step) }
+    // It ran, and every slot of its step was given.
+    fn overruns(&self) -> bool
+        ensures { result ≡ self.now.ran && eqb self.now.job.given (written (task_of self.now.task) self.now.job.step) }
     {
-        let step = usize::from(self.job.step);
-        u16::from(self.job.given) == self.task.units_at(step + step)
+        let place = 2 * usize::from(self.job.step);
+        self.ran && u16::from(self.job.given) == self.task.units_at(place)
     }
 
     // The report on the slot just ended. A stopped job ignores it.
@@ -177,9 +177,7 @@ impl TaskTurn {
         let job = self.job;
         match (job.stand, report) {
             (Stand::Stopped(_), _) => job,
-            (Stand::Ready, Report::Nothing) if self.ran && self.is_used_up() => Job::stopped(
-                Cause::Overrun,
-            ),
+            (Stand::Ready, Report::Nothing) if self.overruns() => Job::stopped(Cause::Overrun),
             (_, Report::Nothing) => job,
             (Stand::Ready, Report::StepDone) if self.ran => self.step_done(),
             (Stand::Waiting, Report::WaitEnded) => Job {

@@ -1,5 +1,6 @@
 -- Each answer of a start is that of the rules, and so is the buffer.
 use mathlib.Core.Path.{refl, ap, ◌∙◌}
+use native.Mathlib.Omega.{arith}
 use Rattle.std.specs.Prelude.{Ok, Err}
 use Rattle.player.specs.Bytes.{set_at}
 use Rattle.player.proofs.Calls.{start-length, start-refused, start-short, start-done}
@@ -17,10 +18,10 @@ returns-in_err-fresh c =
 
 pub returns-then-state-lt-STATE_SIZE : goal.returns-then-state-lt-STATE_SIZE
 returns-then-state-lt-STATE_SIZE c =
-    let x = start-short _ _ _ c.in-Ok.ensures.1.long _ (c.set_from_bytes.ensures ∙ ap set_at c.in-Ok.ensures.1.same) (Ok c.in_ok-fresh.fresh) c.in_ok-fresh.ensures c.in_ok-fresh.fresh refl c.if-state-lt-STATE_SIZE.true in
+    let x = start-short _ _ _ c.in-Ok.ensures.1.long _ (c.set_from_bytes.ensures ∙ ap set_at c.in-Ok.ensures.1.same) (Ok c.in_ok-fresh.fresh) c.in_ok-fresh.ensures c.in_ok-fresh.fresh refl (omega arith) in
     record { number = x.number; buffer = x.buffer }
 
 pub returns : goal.returns
 returns c =
-    let x = start-done _ _ _ c.in-Ok.ensures.1.long _ (c.set_from_bytes.ensures ∙ ap set_at c.in-Ok.ensures.1.same) (Ok c.in_ok-fresh.fresh) c.in_ok-fresh.ensures c.in_ok-fresh.fresh refl _ c.if-state-lt-STATE_SIZE.false c.put_state.ensures in
+    let x = start-done _ _ _ c.in-Ok.ensures.1.long _ (c.set_from_bytes.ensures ∙ ap set_at c.in-Ok.ensures.1.same) (Ok c.in_ok-fresh.fresh) c.in_ok-fresh.ensures c.in_ok-fresh.fresh refl _ (omega arith) c.put_state.ensures in
     record { number = x.number; buffer = x.buffer }

@@ -1,12 +1,11 @@
 -- Each answer of a tick is that of the rules, and so are the buffers.
 use mathlib.Core.Path.{◌≡◌, refl, ap}
-use native.Mathlib.Omega.{arith}
 use borrow.Author.Rules.{rules}
 use mathlib.Core.List.{◌++◌}
 use lib.ListN.{length, drop}
-use lib.Seq.{length-take-le}
 use Rattle.std.specs.Prelude.{Ok, Err}
-use Rattle.player.proofs.Calls.{tick-unread, tick-refused, told-few, tick-short, tick-narrow, tick-done}
+use Rattle.tasks.proofs.Positions.{in_use-length}
+use Rattle.player.proofs.Calls.{tick-unread, tick-refused, tick-short, tick-narrow, tick-done}
 use Rattle.player.proofs.Views.{passed_on}
 use Rattle.player.proofs.strings.tick_string.Goals as goal
 use Rattle.player.proofs.strings.tick_string.Goals.{then-next-lt-STATE_SIZE-via-then-next-lt-STATE_SIZE, then-next-lt-STATE_SIZE-via-else-next-lt-STATE_SIZE+then-faults-n}
@@ -28,36 +27,17 @@ returns-then-next-lt-STATE_SIZE c =
     let read = c.in-Some.ensures.readable.0 refl in
     elim c.then-next-lt-STATE_SIZE.branch [
       | then-next-lt-STATE_SIZE-via-then-next-lt-STATE_SIZE w ↦
-          let x = tick-short _ _ _ c.args.next.now c.args.faults.now read _ c.in-Some.ensures.value (Ok t) c.in_ok-ticked.ensures t refl w.if-next-lt-STATE_SIZE.true in
+          let x = tick-short _ _ _ c.args.next.now c.args.faults.now read _ c.in-Some.ensures.value (Ok t) c.in_ok-ticked.ensures t refl _ (in_use-length _ _ c.used-n.ensures.tasks) w.if-next-lt-STATE_SIZE.true in
           record { number = x.number; buffer = x.buffer; shown = x.shows }
       | then-next-lt-STATE_SIZE-via-else-next-lt-STATE_SIZE+then-faults-n w ↦
-          let x = tick-narrow _ _ _ c.args.next.now c.args.faults.now read _ c.in-Some.ensures.value (Ok t) c.in_ok-ticked.ensures t refl w.if-next-lt-STATE_SIZE.false w.if-faults-n.true in
+          let x = tick-narrow _ _ _ c.args.next.now c.args.faults.now read _ c.in-Some.ensures.value (Ok t) c.in_ok-ticked.ensures t refl _ (in_use-length _ _ c.used-n.ensures.tasks) w.if-next-lt-STATE_SIZE.false w.if-faults-n.true in
           record { number = x.number; buffer = x.buffer; shown = x.shows }
     ]
-
-pub slice_bounds-shown-end : goal.slice_bounds-shown-end
-slice_bounds-shown-end c =
-    let long : length c.fault_bytes-shown.result ≡ 8 = search rules in
-    let few = told-few c.args.state.now _ _ c.args.next.now c.args.faults.now (c.in-Some.ensures.readable.0 refl) _ c.in-Some.ensures.value (Ok c.in_ok-ticked.ticked) c.in_ok-ticked.ensures _ refl in
-    omega arith
-
-pub slice_bounds-copy_from_slice-end-3 : goal.slice_bounds-copy_from_slice-end-3
-slice_bounds-copy_from_slice-end-3 c =
-    let long : length c.fault_bytes-shown.result ≡ 8 = search rules in
-    let few = told-few c.args.state.now _ _ c.args.next.now c.args.faults.now (c.in-Some.ensures.readable.0 refl) _ c.in-Some.ensures.value (Ok c.in_ok-ticked.ticked) c.in_ok-ticked.ensures _ refl in
-    omega (arith, length-take-le (length c.args.reports.now) c.fault_bytes-shown.result (omega arith))
-
-pub copy_from_slice-requires : goal.copy_from_slice-requires
-copy_from_slice-requires c =
-    let n = length c.args.reports.now in
-    let long : length c.fault_bytes-shown.result ≡ 8 = search rules in
-    let few = told-few c.args.state.now _ _ c.args.next.now c.args.faults.now (c.in-Some.ensures.readable.0 refl) _ c.in-Some.ensures.value (Ok c.in_ok-ticked.ticked) c.in_ok-ticked.ensures _ refl in
-    omega (arith, length-take-le n c.args.faults.now c.if-faults-n.false, length-take-le n c.fault_bytes-shown.result (omega arith))
 
 pub returns : goal.returns
 returns c =
     let long : length c.fault_bytes-shown.result ≡ 8 = search rules in
-    let after = c.copy_from_slice.ensures.after in
-    let x = tick-done _ _ _ c.args.next.now c.args.faults.now (c.in-Some.ensures.readable.0 refl) _ c.in-Some.ensures.value (Ok c.in_ok-ticked.ticked) c.in_ok-ticked.ensures _ refl
-    c.fault_bytes-shown.result long c.fault_bytes-shown.ensures _ _ c.if-next-lt-STATE_SIZE.false c.if-faults-n.false c.put_state.ensures (ap (λ l. l ++ drop (length c.args.reports.now) c.args.faults.now) after) in
+    let n = length c.used-n.result.now in
+    let x = tick-done _ _ _ c.args.next.now c.args.faults.now (c.in-Some.ensures.readable.0 refl) _ c.in-Some.ensures.value (Ok c.in_ok-ticked.ticked) c.in_ok-ticked.ensures _ refl n (in_use-length _ _ c.used-n.ensures.tasks)
+    c.fault_bytes-shown.result long c.fault_bytes-shown.ensures _ _ c.if-next-lt-STATE_SIZE.false c.if-faults-n.false c.put_state.ensures (ap (λ l. l ++ drop n c.args.faults.now) c.copy_from_slice.ensures.after) in
     record { number = x.number; buffer = x.buffer; shown = x.shows }
