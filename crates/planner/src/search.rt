@@ -104,7 +104,8 @@ fn lead_on(
     );
     let mark = match task {
         Some(c) => ahead.waits + bit_of(c),
-        None if ahead.urgent.is_nobody() && !seen(area, at.recorded, n, slot + 1, &at.progress) => ahead.waits,
+        None if ahead.urgent.is_nobody() && !seen(area, at.recorded, n, slot + 1, &at.progress) =>
+            ahead.waits,
         None => {
             at.progress = before;
             at.choice = None;
