@@ -58,7 +58,7 @@ pub extern "C" fn kiluvsaat_slots(set: &[u8]) -> u16
     }
 }
 
-// The number of a word.
+// The number of a word. (No From: neither type is this crate's, and the numbers are C's alone.)
 #[tactic(auto, unfolding(planner::specs::Views::word_of, crate::specs::Plans::word_number))]
 fn word_number(word: Word) -> u8
     ensures { result ≡ word_number (word_of word) }

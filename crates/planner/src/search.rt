@@ -203,6 +203,7 @@ pub(crate) fn run(
         choice: Some(Choice::Task(0)),
         recorded: 0,
     };
+    // (A machine that runs to its end: no iterator would be plainer.)
     loop {
         if let Some(answer) = step(rows, n, h, room, &mut at, table, area) {
             return answer;
