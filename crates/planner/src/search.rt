@@ -29,6 +29,15 @@ pub struct Search {
     pub recorded: usize,
 }
 
+// What a search is given and leaves as it is: the rows of n tasks, the slots of their hyper-period, and the room for records.
+#[derive(Clone, Copy)]
+pub(crate) struct Frame<'a> {
+    pub rows: &'a [Timed; 8],
+    pub n: usize,
+    pub h: u16,
+    pub room: usize,
+}
+
 #[tactic(auto, using(crate::proofs::Steps::behind_laws))]
 // The choice to try behind that of a slot: the tasks in their order, then idle, then none.
 fn choice_behind(n: usize, choice: u8) -> Option<Choice>
@@ -77,17 +86,12 @@ fn first_task(
 }
 
 // The first choice that leads to a live position which is not recorded is added to the list; where there is none, all are tried.
-fn lead_on(
-    rows: &[Timed; 8],
-    n: usize,
-    at: &mut Search,
-    choice: Choice,
-    table: &mut [u8],
-    area: &[u16],
-)
-    requires { Trying n rows.now at.old choice table.old area.now }
-    ensures { Tries (row_tasks n rows.now) (machine_of n at.old table.old area.now) (machine_of n at.new table.new area.now) }
+fn lead_on(frame: Frame<'_>, at: &mut Search, choice: Choice, table: &mut [u8], area: &[u16])
+    requires { Trying frame.n frame.rows.now at.old choice table.old area.now }
+    ensures { Tries (row_tasks frame.entry.n frame.entry.rows.now) (machine_of frame.entry.n at.old table.old area.now) (machine_of frame.entry.n at.new table.new area.now) }
 {
+    let rows = frame.rows;
+    let n = frame.n;
     let slot = at.slot;
     let before = at.progress;
     let mut go = [None; 8];
@@ -119,16 +123,12 @@ fn lead_on(
 
 #[tactic(auto, using(crate::proofs::Backs::back_laws))]
 // With no choice left to try the position is dead: it is recorded, and the last choice taken back, or the search is at its end.
-fn record_dead(
-    rows: &[Timed; 8],
-    n: usize,
-    at: &mut Search,
-    table: &[u8],
-    area: &mut [u16],
-) -> Option<Answer>
-    requires { Recording n rows.now at.old table.now area.old }
-    ensures { Gives n at.new result table.now area.new (shut (row_tasks n rows.now) (machine_of n at.old table.now area.old)) }
+fn record_dead(frame: Frame<'_>, at: &mut Search, table: &[u8], area: &mut [u16]) -> Option<Answer>
+    requires { Recording frame.n frame.rows.now at.old table.now area.old }
+    ensures { Gives frame.entry.n at.new result table.now area.new (shut (row_tasks frame.entry.n frame.entry.rows.now) (machine_of frame.entry.n at.old table.now area.old)) }
 {
+    let rows = frame.rows;
+    let n = frame.n;
     let slot = at.slot;
     let progress = at.progress;
     put(area, at.recorded, n, slot, &progress);
@@ -153,20 +153,12 @@ fn record_dead(
 }
 
 #[tactic(auto, using(crate::proofs::Steps::step_laws))]
-// One step of the search, of a hyper-period of h slots, in an area with room for so many records: the answer, if it ends the search.
-fn step(
-    rows: &[Timed; 8],
-    n: usize,
-    h: u16,
-    room: usize,
-    at: &mut Search,
-    table: &mut [u8],
-    area: &mut [u16],
-) -> Option<Answer>
-    requires { Fits n rows.now h room at.old table.old area.old }
-    ensures { Stepping (row_tasks n rows.now) room (machine_of n at.old table.old area.old) n at.new result table.new area.new }
+// One step of the search: the answer, if it ends the search.
+fn step(frame: Frame<'_>, at: &mut Search, table: &mut [u8], area: &mut [u16]) -> Option<Answer>
+    requires { Fits frame.n frame.rows.now frame.h frame.room at.old table.old area.old }
+    ensures { Stepping (row_tasks frame.entry.n frame.entry.rows.now) frame.entry.room (machine_of frame.entry.n at.old table.old area.old) frame.entry.n at.new result table.new area.new }
 {
-    if at.slot == h {
+    if at.slot == frame.h {
         return Some(Answer {
             word: Word::Schedule,
             dead: at.recorded,
@@ -174,28 +166,21 @@ fn step(
     }
     match at.choice {
         Some(choice) => {
-            lead_on(rows, n, at, choice, table, area);
+            lead_on(frame, at, choice, table, area);
             None
         }
-        None if at.recorded == room => Some(Answer {
+        None if at.recorded == frame.room => Some(Answer {
             word: Word::OutOfRoom,
             dead: at.recorded,
         }),
-        None => record_dead(rows, n, at, table, area),
+        None => record_dead(frame, at, table, area),
     }
 }
 
 // The search from its start to its end.
-pub(crate) fn run(
-    rows: &[Timed; 8],
-    n: usize,
-    h: u16,
-    room: usize,
-    table: &mut [u8],
-    area: &mut [u16],
-) -> Answer
-    requires { Opening n rows.now h room table.old area.old }
-    ensures { Ran (row_tasks n rows.now) room (opened (row_tasks n rows.now) table.old area.old) (end_of result.word) result.dead table.new area.new }
+pub(crate) fn run(frame: Frame<'_>, table: &mut [u8], area: &mut [u16]) -> Answer
+    requires { Opening frame.n frame.rows.now frame.h frame.room table.old area.old }
+    ensures { Ran (row_tasks frame.entry.n frame.entry.rows.now) frame.entry.room (opened (row_tasks frame.entry.n frame.entry.rows.now) table.old area.old) (end_of result.word) result.dead table.new area.new }
 {
     let mut at = Search {
         slot: 0,
@@ -205,7 +190,7 @@ pub(crate) fn run(
     };
     // (A machine that runs to its end: no iterator would be plainer.)
     loop {
-        if let Some(answer) = step(rows, n, h, room, &mut at, table, area) {
+        if let Some(answer) = step(frame, &mut at, table, area) {
             return answer;
         }
     }
