@@ -6,7 +6,7 @@ ghost use Rattle.kiluvsaat.specs.Plans.{read_number, read_buffer, place_number, 
 
 use list::read;
 use planner::{Word, plan};
-use player::codec::{SET_SIZE, set_from_bytes, set_to_bytes};
+use player::codec::{SET_SIZE, set_from_bytes, write_set};
 use tasks::Refusal;
 
 // What one line, and one byte of its start, count in a refused line's place.
@@ -21,15 +21,14 @@ pub extern "C" fn kiluvsaat_read(list: &[u8], set: &mut [u8]) -> u8
     ensures number { result ≡ read_number list.now set.old }
     ensures buffer { set.new ≡ read_buffer list.now set.old }
 {
-    let found = match read(list) {
-        Ok(found) => found,
-        Err(refused) => return refused.why.into(),
-    };
-    let Some(place) = set.first_chunk_mut::<SET_SIZE>() else {
-        return Refusal::ShortBuffer.into();
-    };
-    *place = set_to_bytes(&found);
-    0
+    match read(list) {
+        Ok(_) if set.len() < SET_SIZE => Refusal::ShortBuffer.into(),
+        Ok(found) => {
+            write_set(found, set);
+            0
+        }
+        Err(refused) => refused.why.into(),
+    }
 }
 
 // Where the refused line of a list stands: its number from bit 32 on, its start from bit 16 on, and its size. 0 where no line is refused.
@@ -59,7 +58,7 @@ pub extern "C" fn kiluvsaat_slots(set: &[u8]) -> u16
     }
 }
 
-// The number of a word.
+// The number of a word. (No From: neither type is this crate's, and the numbers are C's alone.)
 #[tactic(auto, unfolding(planner::specs::Views::word_of, crate::specs::Plans::word_number))]
 fn word_number(word: Word) -> u8
     ensures { result ≡ word_number (word_of word) }

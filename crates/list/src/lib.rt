@@ -100,6 +100,7 @@ pub fn read(list: &[u8]) -> Result<TaskSet, Refused<'_>>
     let mut set = TaskSet::default();
     let mut line = 1;
     let mut rest = list;
+    // (No `for` over the lines: C asks where a line starts, which what is left tells without counting.)
     while !rest.is_empty() {
         let start = list.len() - rest.len();
         let (text, behind) = first_line(rest);

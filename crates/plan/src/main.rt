@@ -9,10 +9,11 @@ ghost use Rattle.plan.specs.Output.{TellsPlan};
 use std::io;
 use std::io::{Read, Write};
 
-// Reads until the buffer is full or the input ends. The number of bytes read.
+// Reads until the buffer is full or the input ends. The number of bytes read. (By hand, since the library's `read_to_end` takes heap memory.)
 fn read_full<R: Read>(input: &mut R, buffer: &mut [u8]) -> io::Result<usize>
     ensures within { IfOk result (λ n. n ≤ length buffer.new) }
-    ensures read { IfOk result (λ n. IfSome (R.remaining input.old) (λ bytes. take n buffer.new ≡ take (length buffer.new) bytes)) }
+    ensures read { IfOk result (λ n. IfSome (R.remaining input.old)
+        (λ bytes. take n buffer.new ≡ take (length buffer.new) bytes)) }
 {
     let mut size = 0;
     while size < buffer.len() {
@@ -48,8 +49,10 @@ fn write_explanation<W: Write>(list: &[u8], out: &mut W) -> io::Result<()>
 
 // Reads a list, and writes the plan and what is wrong with the list.
 fn run<R: Read, O: Write, E: Write>(input: &mut R, out: &mut O, err: &mut E) -> io::Result<()>
-    ensures plan { OnOk result (IfSome (R.remaining input.old) (λ list. TellsPlan list (O.contents out.old) (O.contents out.new))) }
-    ensures said { OnOk result (IfSome (R.remaining input.old) (λ list. Appends (E.contents err.old) (E.contents err.new) (explanation list))) }
+    ensures plan { OnOk result (IfSome (R.remaining input.old)
+        (λ list. TellsPlan list (O.contents out.old) (O.contents out.new))) }
+    ensures said { OnOk result (IfSome (R.remaining input.old)
+        (λ list. Appends (E.contents err.old) (E.contents err.new) (explanation list))) }
 {
     // One byte more than a list may have, so that a longer list is refused.
     let mut list = [0u8; 4097];

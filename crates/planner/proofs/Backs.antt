@@ -1,6 +1,6 @@
 -- A dead position is recorded: the last choice taken back, or the start left, in the code's terms.
 use mathlib.Core.Path.{◌≡◌, refl, sym, ◌∙◌}
-use Rattle.std.specs.Prelude.{Option}
+use Rattle.std.specs.Prelude.{Option, Some, None}
 use mathlib.Core.List.{List, ◌∷◌, ◌++◌}
 use Prim.Native.Nat.{ℕ, ◌+◌, ◌-◌, ◌*◌}
 use native.Mathlib.Numerals.{add-one}
@@ -12,7 +12,6 @@ use Rattle.tasks.specs.declared.timed.Timed.{Timed}
 use Rattle.planner.specs.declared.search.Search.{Search}
 use Rattle.planner.specs.declared.Word.TheVariants.{Infeasible}
 use Rattle.planner.specs.declared.search.Choice.{Choice}
-use Rattle.planner.specs.declared.search.Stepped.TheVariants.{Going, Ended}
 use Rattle.planner.specs.Rows.{row_tasks}
 use Rattle.planner.specs.Marks.{lowered, unstarted, chosen}
 use Rattle.planner.specs.Machine.{giving, following, noted, last_mark, earlier, last_choice, backed, emptied}
@@ -25,14 +24,14 @@ module _ (n : ℕ) (rows : List Timed) (at : Search) (t a b : List ℕ)
   unfolding noted machine_of
   put_is = put ∙ rw (rows-length n rows, add-one n, add-one at.recorded)
 
-  pub start-dead : at.slot ≡ 0 → Gives n (Ended (record { word = Infeasible; dead = at.recorded + 1 })) t b (shut (row_tasks n rows) (machine_of n at t a))
+  pub start-dead : at.slot ≡ 0 → Gives n at (Some (record { word = Infeasible; dead = at.recorded + 1 })) t b (shut (row_tasks n rows) (machine_of n at t a))
   unfolding Gives shut emptied machine_of end_of is_zero giving
   start-dead e = rw (eq-eqb at.slot 0 e) (record { word_is = refl; counted = sym (add-one at.recorded); table_is = refl; area_is = sym put_is })
 
   pub taken_back : (before : List ℕ) (c : ℕ) (d : Option Choice) → (at.slot ≡ 0 → ⊥)
       → take n before ≡ lowered (get_or t (at.slot - 1) 0) (each (unstarted at.slot) 0 (row_tasks n rows) (take n at.progress))
       → c ≡ chosen 0 (get_or t (at.slot - 1) 0) (row_tasks n rows) (take n before) → number_in d ≡ following n c
-      → Gives n (Going (record { slot = at.slot - 1; progress = before; choice = d; recorded = at.recorded + 1 })) t b (shut (row_tasks n rows) (machine_of n at t a))
+      → Gives n (record { slot = at.slot - 1; progress = before; choice = d; recorded = at.recorded + 1 }) None t b (shut (row_tasks n rows) (machine_of n at t a))
   unfolding Gives shut backed machine_of is_zero last_mark earlier last_choice
   taken_back before c d e f g h =
       let p = put_is in

@@ -1,13 +1,13 @@
 -- What a slot does to a task in the code's terms, and what the look ahead keeps, from the last task down.
-use mathlib.Core.Path.{◌≡◌, refl, sym, ◌∙◌}
+use mathlib.Core.Path.{◌≡◌, refl, sym, ap, ◌∙◌}
 use mathlib.Core.Logic.{◌⊎◌, inl, inr}
 use mathlib.Core.Bool.{Bool, true, false, not, cond}
 use mathlib.Core.List.{List, map}
-use Rattle.std.specs.Prelude.{Option}
+use Rattle.std.specs.Prelude.{Option, None}
 use Prim.Native.Nat.{ℕ, zero, suc, ◌+◌, ◌-◌, ◌*◌, ◌%◌, ◌≤◌, ◌<◌}
 use native.Mathlib.Numerals.{add-one}
 use native.Mathlib.Omega.{arith}
-use borrow.Author.Tests.{eq-eqb, ne_eqb, not-true, not-false}
+use borrow.Author.Tests.{ne_eqb, not-true, not-false}
 use lib.Dec.{eqb}
 use mir.Syntax.{w16}
 use mir.Val.{Fits, bool_byte}
@@ -56,35 +56,33 @@ module _ (t : ℕ) (τ : Task) (p since : ℕ) (k : code.Standing) (stands : sta
   unfolding onward
   onward-at q = rw (e, starts-full t τ)
 
-  pub way-ready : k ≡ Ready → (well : Bool) → well ≡ well_at since τ p → (stay : ℕ) → stay ≡ cond (eqb since τ.period) 0 p
-      → (go : ℕ) → go ≡ cond (well_at since τ (p + 1)) (suc (cond (eqb since τ.period) 0 (p + 1))) 0 → IsWay t τ p false well stay go
+  -- where its progress and, if it is chosen, that in the next slot are such a pair
+  abbrev pub Turned : ℕ × Option ℕ → Type 0
+  Turned turned = (turned.0 ≡ stayed τ p) × (one_more turned.1 ≡ gone t τ p)
+
+  pub turned-ready : k ≡ Ready → (turned : ℕ × Option ℕ) (go : Option ℕ) → turned ≡ (p, go)
+      → one_more go ≡ cond (well_at since τ (p + 1)) (suc (cond (eqb since τ.period) 0 (p + 1))) 0 → Turned turned
   unfolding stayed moved gone is_ready standing_of
-  way-ready h well w stay f go g = record {
-    rising = rw (← stands, h, eq-eqb p p refl);
-    ending = rw (← stands, h) (w ∙ well-at p);
-    staying = rw (← stands, h) (f ∙ onward-at p);
-    going = rw (← stands, h, ← add-one p) (g ∙ rw (well-at (p + 1), onward-at (p + 1)));
+  turned-ready h turned go f g = rw f (rw (← stands, h, ← add-one p) (refl, g ∙ rw (well-at (p + 1), onward-at (p + 1))))
+
+  pub turned-waiting : k ≡ Waiting → (turned : ℕ × Option ℕ) → turned ≡ (p + 1, None) → Turned turned
+  unfolding stayed moved gone is_ready standing_of
+  turned-waiting h turned f = rw f (rw (← stands, h) (add-one p, refl))
+
+  pub turned-done : k ≡ Done → (turned : ℕ × Option ℕ) → turned ≡ (p, None) → Turned turned
+  unfolding stayed moved gone is_ready standing_of
+  turned-done h turned f = rw f (rw (← stands, h) (refl, refl))
+
+  pub way-is : (turned : ℕ × Option ℕ) → Turned turned → (well : Bool) → well ≡ well_at since τ turned.0 → (stay : ℕ) → stay ≡ cond (eqb since τ.period) 0 turned.0
+      → IsWay t τ p (not (eqb p turned.0)) well stay (one_more turned.1)
+  way-is turned e well w stay f = record {
+    rising = ap (λ q. not (eqb p q)) e.0;
+    ending = w ∙ well-at turned.0 ∙ ap (well_after t τ) e.0;
+    staying = f ∙ onward-at turned.0 ∙ ap (onward t τ) e.0;
+    going = e.1;
   }
 
-  pub way-waiting : k ≡ Waiting → (well : Bool) → well ≡ well_at since τ (p + 1) → (stay : ℕ) → stay ≡ cond (eqb since τ.period) 0 (p + 1) → IsWay t τ p true well stay 0
-  unfolding stayed moved gone is_ready standing_of
-  way-waiting h well w stay f = record {
-    rising = rw (← stands, h, ne_eqb p (suc p) (λ z. omega arith));
-    ending = rw (← stands, h, ← add-one p) (w ∙ well-at (p + 1));
-    staying = rw (← stands, h, ← add-one p) (f ∙ onward-at (p + 1));
-    going = rw (← stands, h);
-  }
-
-  pub way-done : k ≡ Done → (well : Bool) → well ≡ well_at since τ p → (stay : ℕ) → stay ≡ cond (eqb since τ.period) 0 p → IsWay t τ p false well stay 0
-  unfolding stayed moved gone is_ready standing_of
-  way-done h well w stay f = record {
-    rising = rw (← stands, h, eq-eqb p p refl);
-    ending = rw (← stands, h) (w ∙ well-at p);
-    staying = rw (← stands, h) (f ∙ onward-at p);
-    going = rw (← stands, h);
-  }
-
-pub ruleset way_laws = (below-ready, below_waiting, way-ready, way-waiting, way-done)
+pub ruleset way_laws = (below-ready, below_waiting)
 
 -- ── the look ahead ──────────────────────────────────────────────────────────
 
@@ -129,12 +127,13 @@ module _ (n : ℕ) (rows : List Timed) (progress : List ℕ) (slot : ℕ) where
     pub counted : late + i ≤ n
     pub byte : first ≤ 255
     pub claims : urgent_in late first ≡ claimed slot i (drop i set-of) (drop i now_of)
+    pub kept : (j : ℕ) → j < i → get_or stay j 0 ≡ get_or progress j 0
     pub staying : (j : ℕ) → i ≤ j → j < n → get_or stay j 0 ≡ onward slot (get_or set-of j no_task) (stayed (get_or set-of j no_task) (get_or now_of j 0))
     pub going : (j : ℕ) → i ≤ j → j < n → get_or (map one_more go) j 0 ≡ gone slot (get_or set-of j no_task) (get_or now_of j 0)
 
-  pub looked-start : (stay : List ℕ) (go : List (Option ℕ)) → Laid n rows → length rows ≡ 8 → length progress ≡ 8 → length stay ≡ 8 → length go ≡ 8 → Looked n 0 0 0 stay go
+  pub looked-start : (go : List (Option ℕ)) → Laid n rows → length rows ≡ 8 → length progress ≡ 8 → length go ≡ 8 → Looked n 0 0 0 progress go
   unfolding mark claimed urgent_in
-  looked-start stay go laid r e f g =
+  looked-start go laid r e g =
       let few = laid.few in
       let l : length now_of ≡ n = length-take-le n progress (omega arith) in
       let m = rows-length n rows in
@@ -143,13 +142,14 @@ module _ (n : ℕ) (rows : List Timed) (progress : List ℕ) (slot : ℕ) where
         laid = laid;
         eights = r;
         eight = e;
-        long = f;
+        long = e;
         long' = g;
         small = omega arith;
         rising = rw (drop_of_length-le now_of {i = n} (omega arith));
         counted = omega arith;
         byte = omega arith;
         claims = rw (drop_of_length-le set-of {i = n} (omega arith));
+        kept = λ j h. refl;
         staying = λ j h k. let z : ⊥ = omega arith in absurd z;
         going = λ j h k. let z : ⊥ = omega arith in absurd z;
       }
@@ -227,12 +227,13 @@ module _ (n : ℕ) (rows : List Timed) (progress : List ℕ) (slot : ℕ) where
         counted = y.0;
         byte = y.1;
         claims = y.2 ∙ rw (way.ending, v.claims) (sym (claimed-at k h most v.eight));
+        kept = λ j a. get_or-set_other stay k j st 0 (λ z. omega arith) ∙ v.kept j (omega arith);
         staying = written (λ j. onward slot (get_or set-of j no_task) (stayed (get_or set-of j no_task) (get_or now_of j 0))) stay k st (omega arith) (rw (r, q) way.staying) v.staying;
         going = rw (map-set one_more go k g) (written (λ j. gone slot (get_or set-of j no_task) (get_or now_of j 0)) (map one_more go) k (one_more g) (omega (arith, length-map go one_more)) (rw (r, q) way.going) v.going);
       }
 
   module _ (i waits late first : ℕ) (stay : List ℕ) (go : List (Option ℕ)) (v : Looked i waits late first stay go) (h : 0 < i)
-      (r : Timed) (rises well : Bool) (st : ℕ) (g : Option ℕ) (way : IsWay slot (timed_task (get_or rows (i - 1) r)) (get_or progress (i - 1) 0) rises well st (one_more g)) where
+      (r : Timed) (rises well : Bool) (st : ℕ) (g : Option ℕ) (way : IsWay slot (timed_task (get_or rows (i - 1) r)) (get_or stay (i - 1) 0) rises well st (one_more g)) where
     stepped : (u f : ℕ) → (u + (i - 1) ≤ n) × (f ≤ 255) × (urgent_in u f ≡ claim (urgent_in late first) well (i - 1))
         → Looked (i - 1) (waits * 2 + bool_byte rises) u f (set stay (i - 1) st) (set go (i - 1) g)
     stepped u f y =
@@ -240,7 +241,7 @@ module _ (n : ℕ) (rows : List Timed) (progress : List ℕ) (slot : ℕ) where
         let few = v.few in
         let m = v.laid.few in
         let l = v.eights in
-        step (i - 1) waits late first stay go rises well st g (waits * 2 + bool_byte rises) u f (rw z at v) (rw (row_is rows (i - 1) r (omega arith)) at way) (bit_put waits rises) y
+        step (i - 1) waits late first stay go rises well st g (waits * 2 + bool_byte rises) u f (rw z at v) (rw (row_is rows (i - 1) r (omega arith), v.kept (i - 1) (omega arith)) at way) (bit_put waits rises) y
 
     pub looked-late : not well ≡ true → Looked (i - 1) (waits * 2 + bool_byte rises) (late + 1) (i - 1) (set stay (i - 1) st) (set go (i - 1) g)
     looked-late e =

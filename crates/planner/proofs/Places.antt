@@ -74,7 +74,6 @@ module _ (tasks : List code.Task) where
       ext_get_or no_task (row_tasks n rows) (set_of s) l
       (λ j k. row_at n rows j (omega arith) ∙ v.done j (omega arith) ∙ ap (λ (τs : List Task). get_or τs j no_task) all)
 
-
 -- the first of the eight zeros that a search begins with
 pub take-replicate : (n k a : ℕ) → n ≤ k → take n (replicate k a) ≡ replicate n a
 take-replicate zero k a h = refl

@@ -6,7 +6,7 @@ use mathlib.Core.List.{List}
 use Prim.Native.Nat.{ℕ, ◌≤◌, ◌<◌}
 use native.Mathlib.Omega.{arith}
 use borrow.Author.Tests.{le-ltb}
-use Rattle.std.specs.Prelude.{Some}
+use Rattle.std.specs.Prelude.{Some, None}
 use lib.Dec.{eqb}
 use lib.ListN.{length, replicate}
 use Rattle.rules.specs.Tasks as model
@@ -23,7 +23,6 @@ use Rattle.planner.specs.declared.Answer.{Answer}
 use Rattle.planner.specs.declared.search.Choice as choices
 use Rattle.planner.specs.declared.search.Choice.TheVariants.{Task}
 use Rattle.planner.specs.declared.search.Search.{Search}
-use Rattle.planner.specs.declared.search.Stepped.TheVariants.{Going, Ended}
 use Rattle.planner.specs.Rows.{row_tasks}
 use Rattle.planner.specs.Machine as machine
 use Rattle.planner.specs.Machine.{Machine, is_going, giving, leads_on, pushed, passed_over, step_of, Tries, adds, passes, spent, Took, once, tries, Reaches, ends, steps, opened}
@@ -144,11 +143,11 @@ module _ (n : ℕ) (rows : List Timed) (h K : ℕ) (t₀ a₀ : List ℕ) where
         tried c (inr (inr e)) = let k = number-few c in let z : ⊥ = omega arith in absurd z
 
     module _ (t' a' : List ℕ) where
-      went : (on : Search) → Stepping s K (machine_of n at t a) n (Going on) t' a' → Took s K (machine_of n at t a) machine.going (machine_of n on t' a')
+      went : (on : Search) → Stepping s K (machine_of n at t a) n on None t' a' → Took s K (machine_of n at t a) machine.going (machine_of n on t' a')
       unfolding Gives giving
       went on did = rw did.given at did.took
 
-      pub underway-step : (on : Search) → Stepping s K (machine_of n at t a) n (Going on) t' a' → Underway t' a' on
+      pub underway-step : (on : Search) → Stepping s K (machine_of n at t a) n on None t' a' → Underway t' a' on
       unfolding machine_of
       underway-step on did =
           let S = setting U.opening in
@@ -162,15 +161,15 @@ module _ (n : ℕ) (rows : List Timed) (h K : ℕ) (t₀ a₀ : List ℕ) where
             back = λ w o r. U.back w o (k.back w o r);
           }
 
-      pub step_less : (on : Search) → Stepping s K (machine_of n at t a) n (Going on) t' a'
+      pub step_less : (on : Search) → Stepping s K (machine_of n at t a) n on None t' a'
           → left K h on.recorded on.slot (number_in on.choice) < left K h at.recorded at.slot (number_in at.choice)
       unfolding machine_of
       step_less on did = rw U.opening.period (going_on s K t₀ a₀ (setting U.opening) (machine_of n at t a) (machine_of n on t' a') (went on did) U.good).1
 
       -- a step that does not go on ends the run
-      pub stops : (w : Answer) → Stepping s K (machine_of n at t a) n (Ended w) t' a' → Ran s K (opened s t₀ a₀) (end_of w.word) w.dead t' a'
+      pub stops : (on : Search) (w : Answer) → Stepping s K (machine_of n at t a) n on (Some w) t' a' → Ran s K (opened s t₀ a₀) (end_of w.word) w.dead t' a'
       unfolding Gives is_going
-      stops w did =
+      stops on w did =
           let g : Ends w t' a' did.reached = did.given in
           record {
             last = did.reached.machine;

@@ -11,14 +11,13 @@ use lib.Dec.{eqb}
 use Rattle.rules.specs.Tasks as model
 use Rattle.rules.specs.Hyper.{hyper}
 use Rattle.rules.specs.Positions.{idle}
-use Rattle.std.specs.Prelude.{Some, None, min}
+use Rattle.std.specs.Prelude.{Option, Some, None, min}
 use Rattle.tasks.specs.declared.timed.Timed.{Timed}
+use Rattle.planner.specs.declared.Answer.{Answer}
 use Rattle.planner.specs.declared.Word.TheVariants.{Schedule, OutOfRoom}
 use Rattle.planner.specs.declared.search.Choice.{Choice}
 use Rattle.planner.specs.declared.search.Choice.TheVariants.{Task, Idle}
 use Rattle.planner.specs.declared.search.Search.{Search}
-use Rattle.planner.specs.declared.search.Stepped.{Stepped}
-use Rattle.planner.specs.declared.search.Stepped.TheVariants.{Going, Ended}
 use Rattle.planner.specs.Rows.{row_tasks}
 use Rattle.planner.specs.Machine as machine
 use Rattle.planner.specs.Machine.{Machine, following, giving, step_of, Tries, Took, once, tries}
@@ -71,7 +70,7 @@ module _ (n : ℕ) (rows : List Timed) (h room : ℕ) (at : Search) (t a : List 
       let u : suc at.recorded ≤ room = lt_of at.recorded room k m in let b = fits.slots in let l = fits.long in let o = fits.holds in
       record { laid = fits.laid; slots = omega arith; more = omega (arith, mul-le-mul_right (suc n) u) }
 
-  pub list-whole : at.slot ≡ h → Stepping s room (machine_of n at t a) n (Ended (record { word = Schedule; dead = at.recorded })) t a
+  pub list-whole : at.slot ≡ h → Stepping s room (machine_of n at t a) n at (Some (record { word = Schedule; dead = at.recorded })) t a
   unfolding step_of machine_of Gives end_of giving
   list-whole e = record {
     reached = giving machine.found (machine_of n at t a);
@@ -84,7 +83,7 @@ module _ (n : ℕ) (rows : List Timed) (h room : ℕ) (at : Search) (t a : List 
     short = ne_eqb at.slot (hyper s) (λ e. below (e ∙ sym fits.period))
 
     pub tried : (q : Search) (t' : List ℕ) (choice : Choice) → at.choice ≡ Some choice → Tries s (machine_of n at t a) (machine_of n q t' a)
-        → Stepping s room (machine_of n at t a) n (Going q) t' a
+        → Stepping s room (machine_of n at t a) n q None t' a
     unfolding machine_of Gives idle giving
     tried q t' choice c e = record {
       reached = giving machine.going (machine_of n q t' a);
@@ -93,7 +92,7 @@ module _ (n : ℕ) (rows : List Timed) (h room : ℕ) (at : Search) (t a : List 
     }
 
     module _ (none : at.choice ≡ None) where
-      pub room-full : at.recorded ≡ room → Stepping s room (machine_of n at t a) n (Ended (record { word = OutOfRoom; dead = at.recorded })) t a
+      pub room-full : at.recorded ≡ room → Stepping s room (machine_of n at t a) n at (Some (record { word = OutOfRoom; dead = at.recorded })) t a
       unfolding step_of machine_of Gives end_of idle giving
       room-full e = let w = short in record {
         reached = giving machine.no_room (machine_of n at t a);
@@ -101,10 +100,10 @@ module _ (n : ℕ) (rows : List Timed) (h room : ℕ) (at : Search) (t a : List 
         given = record { word_is = refl; counted = refl; table_is = refl; area_is = refl };
       }
 
-      pub shuts : (q : Stepped) (t' a' : List ℕ) → (at.recorded ≡ room → ⊥) → Gives n q t' a' (shut s (machine_of n at t a))
-          → Stepping s room (machine_of n at t a) n q t' a'
+      pub shuts : (q : Search) (r : Option Answer) (t' a' : List ℕ) → (at.recorded ≡ room → ⊥) → Gives n q r t' a' (shut s (machine_of n at t a))
+          → Stepping s room (machine_of n at t a) n q r t' a'
       unfolding step_of machine_of shut idle giving
-      shuts q t' a' m e = let w = short in record {
+      shuts q r t' a' m e = let w = short in record {
         reached = shut s (machine_of n at t a);
         took = once {m = machine_of n at t a} (rw (w, none, ne_eqb at.recorded room m));
         given = e;

@@ -18,8 +18,6 @@ use Rattle.planner.specs.declared.Answer.{Answer}
 use Rattle.planner.specs.declared.search.Choice.{Choice}
 use Rattle.planner.specs.declared.search.Choice.TheVariants.{Task, Idle}
 use Rattle.planner.specs.declared.search.Search.{Search}
-use Rattle.planner.specs.declared.search.Stepped.{Stepped}
-use Rattle.planner.specs.declared.search.Stepped.TheVariants.{Going, Ended}
 
 unfoldable pub word_of : Word → model.Word
 word_of Schedule = model.schedule
@@ -57,20 +55,20 @@ pub record Ends (a : Answer) (table area : List ℕ) (r : machine.Stepped) : Typ
   pub table_is : r.machine.table ≡ table
   pub area_is : r.machine.area ≡ area
 
--- what a step gives in the code is what the machine's gives
-unfoldable pub Gives : ℕ → Stepped → List ℕ → List ℕ → machine.Stepped → Type 0
-Gives n (Going at) table area r = r ≡ giving machine.going (machine_of n at table area)
-Gives n (Ended a) table area r = Ends a table area r
+-- what a step gives in the code, the search with or without an answer that ends it, is what the machine's gives
+unfoldable pub Gives : ℕ → Search → Option Answer → List ℕ → List ℕ → machine.Stepped → Type 0
+Gives n at None table area r = r ≡ giving machine.going (machine_of n at table area)
+Gives n at (Some a) table area r = Ends a table area r
 
 -- a step with no choice left to try
 unfoldable pub shut : List model_task.Task → Machine → machine.Stepped
 shut s m = cond (is_zero m.slot) (giving machine.failed (emptied s m)) (giving machine.going (backed s m))
 
 -- what a step of the code does to a machine
-pub record Stepping (s : List model_task.Task) (K : ℕ) (m : Machine) (n : ℕ) (did : Stepped) (table area : List ℕ) : Type 0 where
+pub record Stepping (s : List model_task.Task) (K : ℕ) (m : Machine) (n : ℕ) (at : Search) (did : Option Answer) (table area : List ℕ) : Type 0 where
   pub reached : machine.Stepped
   pub took : Took s K m reached.status reached.machine
-  pub given : Gives n did table area reached
+  pub given : Gives n at did table area reached
 
 -- a choice to try, a slot of the table for its mark, and an area that holds the records
 pub record Trying (n : ℕ) (rows : List Timed) (at : Search) (choice : Choice) (table area : List ℕ) : Type 0 where

@@ -14,7 +14,7 @@ ghost use Rattle.planner.specs.Views.{answer_of};
 use crate::area::fill;
 use crate::mark::spell;
 use crate::rows::lay_out;
-use crate::search::run;
+use crate::search::{Frame, run};
 use tasks::{Position, Refusal, TaskSet};
 
 #[derive(Clone, Copy, Debug, PartialEq, Eq)]
@@ -54,7 +54,13 @@ pub fn plan(set: &TaskSet, table: &mut [u8], area: &mut [u16]) -> Result<Answer,
     let n = set.used().len();
     let room = area.len() / (n + 1);
     let rows = lay_out(set);
-    let answer = run(&rows, n, h, room, table, area);
+    let frame = Frame {
+        rows: &rows,
+        n,
+        h,
+        room,
+    };
+    let answer = run(frame, table, area);
     match answer.word {
         Word::Schedule => spell(&rows, n, table, h),
         Word::Infeasible | Word::OutOfRoom => fill(table, slots),

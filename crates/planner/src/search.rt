@@ -29,11 +29,14 @@ pub struct Search {
     pub recorded: usize,
 }
 
-// What a step gives: a search to go on with, or the answer that ends it.
-#[derive(Clone, Copy, Debug, PartialEq, Eq)]
-pub enum Stepped {
-    Going(Search),
-    Ended(Answer),
+// What a search is given and leaves as it is: the rows of n tasks, the slots of their hyper-period, and the room for records.
+// (No ghost fields: `Fits` and its kin bind these numbers to the search and to both lent buffers, which change with each step.)
+#[derive(Clone, Copy)]
+pub(crate) struct Frame<'a> {
+    pub rows: &'a [Timed; 8],
+    pub n: usize,
+    pub h: u16,
+    pub room: usize,
 }
 
 #[tactic(auto, using(crate::proofs::Steps::behind_laws))]
@@ -69,6 +72,7 @@ fn first_task(
         return None;
     };
     for i in from as usize..n {
+        // (Two tests: after one, `if let .. && ..`, the proof does not know that a task passed over has no way.)
         if let Some(to) = go[i] {
             if urgent.allows(i as u8) {
                 let unchosen = stay[i];
@@ -84,59 +88,56 @@ fn first_task(
 }
 
 // The first choice that leads to a live position which is not recorded is added to the list; where there is none, all are tried.
-fn lead_on(
-    rows: &[Timed; 8],
-    n: usize,
-    at: Search,
-    choice: Choice,
-    table: &mut [u8],
-    area: &[u16],
-) -> Search
-    requires { Trying n rows.now at choice table.old area.now }
-    ensures { Tries (row_tasks n rows.now) (machine_of n at table.old area.now) (machine_of n result table.new area.now) }
+// (In place: a search handed on by value makes planning up to a tenth slower.)
+fn lead_on(frame: Frame<'_>, at: &mut Search, choice: Choice, table: &mut [u8], area: &[u16])
+    requires { Trying frame.n frame.rows.now at.old choice table.old area.now }
+    ensures { Tries (row_tasks frame.entry.n frame.entry.rows.now) (machine_of frame.entry.n at.old table.old area.now) (machine_of frame.entry.n at.new table.new area.now) }
 {
+    let rows = frame.rows;
+    let n = frame.n;
     let slot = at.slot;
-    let recorded = at.recorded;
-    let progress = at.progress;
-    let mut stay = [0; 8];
+    let before = at.progress;
     let mut go = [None; 8];
-    let ahead = look_ahead(rows, n, slot, &progress, &mut stay, &mut go);
+    let ahead = look_ahead(rows, n, slot, &mut at.progress, &mut go);
     let task = first_task(
         n,
         choice,
         ahead.urgent,
         slot + 1,
-        recorded,
+        at.recorded,
         &go,
-        &mut stay,
+        &mut at.progress,
         area,
     );
     let mark = match task {
         Some(c) => ahead.waits + bit_of(c),
-        None if ahead.urgent.is_nobody() && !seen(area, recorded, n, slot + 1, &stay) => ahead.waits,
-        None => return Search { choice: None, ..at },
+        None if ahead.urgent.is_nobody() && !seen(area, at.recorded, n, slot + 1, &at.progress) =>
+            ahead.waits,
+        None => {
+            at.progress = before;
+            at.choice = None;
+            return;
+        }
     };
     table[slot as usize] = mark;
-    Search {
-        slot: slot + 1,
-        progress: stay,
-        choice: Some(Choice::Task(0)),
-        recorded,
-    }
+    at.slot = slot + 1;
+    at.choice = Some(Choice::Task(0));
 }
 
 #[tactic(auto, using(crate::proofs::Backs::back_laws))]
-// With no choice left to try the position is dead: it is recorded, and the last choice taken back.
-fn record_dead(rows: &[Timed; 8], n: usize, at: Search, table: &[u8], area: &mut [u16]) -> Stepped
-    requires { Recording n rows.now at table.now area.old }
-    ensures { Gives n result table.now area.new (shut (row_tasks n rows.now) (machine_of n at table.now area.old)) }
+// With no choice left to try the position is dead: it is recorded, and the last choice taken back, or the search is at its end.
+fn record_dead(frame: Frame<'_>, at: &mut Search, table: &[u8], area: &mut [u16]) -> Option<Answer>
+    requires { Recording frame.n frame.rows.now at.old table.now area.old }
+    ensures { Gives frame.entry.n at.new result table.now area.new (shut (row_tasks frame.entry.n frame.entry.rows.now) (machine_of frame.entry.n at.old table.now area.old)) }
 {
+    let rows = frame.rows;
+    let n = frame.n;
     let slot = at.slot;
     let progress = at.progress;
     put(area, at.recorded, n, slot, &progress);
     let recorded = at.recorded + 1;
     if slot == 0 {
-        return Stepped::Ended(Answer {
+        return Some(Answer {
             word: Word::Infeasible,
             dead: recorded,
         });
@@ -145,55 +146,44 @@ fn record_dead(rows: &[Timed; 8], n: usize, at: Search, table: &[u8], area: &mut
     let mark = table[last as usize];
     let before = take_back(rows, n, slot, progress, mark);
     let choice = choice_from(rows, n, &before, mark);
-    Stepped::Going(Search {
+    *at = Search {
         slot: last,
         progress: before,
         choice: choice_behind(n, choice),
         recorded,
-    })
+    };
+    None
 }
 
 #[tactic(auto, using(crate::proofs::Steps::step_laws))]
-// One step of the search, of a hyper-period of h slots, in an area with room for so many records.
-fn step(
-    rows: &[Timed; 8],
-    n: usize,
-    h: u16,
-    room: usize,
-    at: Search,
-    table: &mut [u8],
-    area: &mut [u16],
-) -> Stepped
-    requires { Fits n rows.now h room at table.old area.old }
-    ensures { Stepping (row_tasks n rows.now) room (machine_of n at table.old area.old) n result table.new area.new }
+// One step of the search: the answer, if it ends the search.
+fn step(frame: Frame<'_>, at: &mut Search, table: &mut [u8], area: &mut [u16]) -> Option<Answer>
+    requires { Fits frame.n frame.rows.now frame.h frame.room at.old table.old area.old }
+    ensures { Stepping (row_tasks frame.entry.n frame.entry.rows.now) frame.entry.room (machine_of frame.entry.n at.old table.old area.old) frame.entry.n at.new result table.new area.new }
 {
-    if at.slot == h {
-        return Stepped::Ended(Answer {
+    if at.slot == frame.h {
+        return Some(Answer {
             word: Word::Schedule,
             dead: at.recorded,
         });
     }
     match at.choice {
-        Some(choice) => Stepped::Going(lead_on(rows, n, at, choice, table, area)),
-        None if at.recorded == room => Stepped::Ended(Answer {
+        Some(choice) => {
+            lead_on(frame, at, choice, table, area);
+            None
+        }
+        None if at.recorded == frame.room => Some(Answer {
             word: Word::OutOfRoom,
             dead: at.recorded,
         }),
-        None => record_dead(rows, n, at, table, area),
+        None => record_dead(frame, at, table, area),
     }
 }
 
 // The search from its start to its end.
-pub(crate) fn run(
-    rows: &[Timed; 8],
-    n: usize,
-    h: u16,
-    room: usize,
-    table: &mut [u8],
-    area: &mut [u16],
-) -> Answer
-    requires { Opening n rows.now h room table.old area.old }
-    ensures { Ran (row_tasks n rows.now) room (opened (row_tasks n rows.now) table.old area.old) (end_of result.word) result.dead table.new area.new }
+pub(crate) fn run(frame: Frame<'_>, table: &mut [u8], area: &mut [u16]) -> Answer
+    requires { Opening frame.n frame.rows.now frame.h frame.room table.old area.old }
+    ensures { Ran (row_tasks frame.entry.n frame.entry.rows.now) frame.entry.room (opened (row_tasks frame.entry.n frame.entry.rows.now) table.old area.old) (end_of result.word) result.dead table.new area.new }
 {
     let mut at = Search {
         slot: 0,
@@ -201,10 +191,10 @@ pub(crate) fn run(
         choice: Some(Choice::Task(0)),
         recorded: 0,
     };
+    // (A machine that runs to its end: no iterator would be plainer.)
     loop {
-        match step(rows, n, h, room, at, table, area) {
-            Stepped::Going(on) => at = on,
-            Stepped::Ended(answer) => return answer,
+        if let Some(answer) = step(frame, &mut at, table, area) {
+            return answer;
         }
     }
 }

@@ -1,6 +1,6 @@
 -- Arrays made entry by entry, and parts of a string: what a loop over the entries keeps, what it has at the end, and parts written one behind the other.
 use mathlib.Core.Path.{◌≡◌, refl, ap, ◌∙◌}
-use mathlib.Core.Logic.{◌⊎◌, inl, inr}
+use borrow.Author.Count.{below_more}
 use mathlib.Core.List.{List, [], ◌∷◌, ◌++◌}
 use Prim.Native.Nat.{ℕ, zero, suc, ◌+◌, ◌≤◌, ◌<◌}
 use native.Mathlib.Nat.{zero-add}
@@ -8,7 +8,6 @@ use native.Mathlib.Omega.{arith}
 use lib.ListN.{length, get_or, set, drop, length-set}
 use lib.Seq.{get_or-set_same, get_or-set_other, sets, sets-eq}
 use Rattle.rules.specs.Lists.{tabulate}
-use Rattle.rules.proofs.Laws.{le-or-lt}
 use Rattle.player.specs.Bytes.{joined}
 
 -- ── tables ──────────────────────────────────────────────────────────────────
@@ -28,18 +27,13 @@ module _ {A B : Type 0} (m : ℕ) (v : A → B) (d : A) (f : ℕ → B) where
     pub long : length l ≡ m
     pub done : (k : ℕ) → k < i → v (get_or l k d) ≡ f k
 
-  pub got-start : (l : List A) → length l ≡ m → Got 0 l
-  got-start l e = record { long = e; done = λ k h. absurd (omega arith) }
-
   pub got-step : (i : ℕ) (l : List A) (y : A) → Got i l → i < m → v y ≡ f i → Got (i + 1) (set l i y)
-  got-step i l y s h e = record { long = length-set l i y ∙ s.long; done = λ k j. at k (le-or-lt i k) j }
-    where
-      at : (k : ℕ) → (i ≤ k) ⊎ (k < i) → k < i + 1 → v (get_or (set l i y) k d) ≡ f k
-      at k (inr j) n = ap v (get_or-set_other l i k y d (λ q. omega arith)) ∙ s.done k j
-      at k (inl j) n =
-          let q : k ≡ i = omega arith in
-          let w = s.long in
-          rw q (ap v (get_or-set_same l i y d (omega arith)) ∙ e)
+  got-step i l y s h e =
+      let w = s.long in
+      record {
+        long = length-set l i y ∙ s.long;
+        done = below_more _ _ (λ k j. ap v (get_or-set_other l i k y d (λ q. omega arith)) ∙ s.done k j) (ap v (get_or-set_same l i y d (omega arith)) ∙ e);
+      }
 
   pub got-end : (i : ℕ) (l : List A) → Got i l → m ≤ i → tabulate (λ k. v (get_or l k d)) 0 m ≡ tabulate f 0 m
   got-end i l s h = tabulate-same (λ k. v (get_or l k d)) f 0 m (λ k j. s.done k (omega arith))

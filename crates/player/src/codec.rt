@@ -108,7 +108,7 @@ fn jobs_in(bytes: &[u8; STATE_SIZE]) -> Option<[Job; 8]>
     Some(jobs)
 }
 
-// The bytes of each job.
+// The bytes of each job. (A loop, here and below: of `jobs.map(|job| job.to_bytes())` the check learns the length and nothing more.)
 #[tactic(auto, using(crate::proofs::Pieces::piece_laws), unfolding(crate::specs::Views::jobs_of))]
 fn jobs_to_bytes(jobs: &[Job; 8]) -> [[u8; JOB_SIZE]; 8]
     ensures { result ≡ map job_bytes (jobs_of jobs.now) }
@@ -189,7 +189,7 @@ pub fn set_from_bytes(bytes: &[u8; SET_SIZE]) -> TaskSet
 }
 
 // The string that holds a task set.
-pub fn set_to_bytes(set: &TaskSet) -> [u8; SET_SIZE]
+fn set_to_bytes(set: &TaskSet) -> [u8; SET_SIZE]
     ensures { result ≡ set_bytes (record_of set.now) }
 {
     let mut held = [[0; TASK_SIZE]; 8];
@@ -214,7 +214,9 @@ pub fn set_in(bytes: &[u8]) -> TaskSet
     }
 }
 
-// A task set, put at the start of a string; a string shorter than a set's is left as it is.
+// A task set, put at the start of a string; a string shorter than a set's is left as it is. Not inlined: its room is not to be taken while
+// a list is read, whose stack the header bounds.
+#[inline(never)]
 #[tactic(auto, using(crate::proofs::Pieces::cond_room))]
 pub fn write_set(set: TaskSet, out: &mut [u8])
     ensures { out.new ≡ cond (leb 97 (length out.old)) (set_bytes (record_of set) ++ drop 97 out.old) out.old }

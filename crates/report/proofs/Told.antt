@@ -26,7 +26,7 @@ use Rattle.report.specs.Texts.{two_numbers, schedule_word, infeasible_word, out_
 use Rattle.report.specs.Put.{PutCut, Choice, fields}
 use Rattle.report.specs.Adds.{Adds}
 use Rattle.report.specs.declared.write.Text.{Text}
-use Rattle.report.specs.Reports.{answer_text, Tellable, Told, Untouched, Reported}
+use Rattle.report.specs.Reports.{answer_text, Tellable, Told, Reported}
 use Rattle.report.proofs.Adds.{adds-more}
 use Rattle.report.proofs.Put.{cut-whole}
 use Rattle.report.proofs.Numbers.{one-line, two-line, one-length, two-length}
@@ -67,17 +67,6 @@ module _ {a b : Text} (h n : ℕ) (table : List ℕ) where
   pub answer-room : Adds a (out_of_room_word ++ fields (n ∷ []) ++ 10 ∷ []) b → Adds a (answer_text h (answered out_of_room n) table) b
   unfolding answer_text word_text
   answer-room A = rw (one-line out_of_room_word n) at A
-
--- ── too little lent ─────────────────────────────────────────────────────────
-
-untouched : (table area out : List ℕ) → Untouched table area out 0 table area out
-untouched table area out = record { none = refl; table_kept = refl; area_kept = refl; out_kept = refl }
-
-pub short-table : (list table area out : List ℕ) → length table < 4096 → Reported list table area out 0 table area out
-short-table list table area out h = record { short = λ _. untouched table area out; told = λ a b. let z : ⊥ = omega arith in absurd z }
-
-pub short-out : (list table area out : List ℕ) → length out < 4300 → Reported list table area out 0 table area out
-short-out list table area out h = record { short = λ _. untouched table area out; told = λ a b. let z : ⊥ = omega arith in absurd z }
 
 -- ── enough lent ─────────────────────────────────────────────────────────────
 

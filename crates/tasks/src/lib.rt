@@ -19,7 +19,7 @@ pub struct Task {
     pub pattern: [u8; 7],
 }
 
-// A set of tasks, of which the first `count` are in use.
+// A set of tasks, of which the first `count` are in use. (An array with its count: it needs no heap, and travels to C as it is.)
 #[derive(Clone, Copy, Debug, Default, PartialEq, Eq)]
 pub struct TaskSet {
     pub count: u8,

@@ -13,7 +13,8 @@ pub struct Position {
     pub progress: [u16; 8],
 }
 
-// Where a choice leads: whether it is an allowed choice to a live position, and the progress after it.
+// Where a choice leads: whether it is an allowed choice to a live position, and the progress after it. (No Option: the progress is told of every
+// choice.)
 #[derive(Clone, Copy, Debug, PartialEq, Eq)]
 pub struct Onward {
     pub legal: bool,

@@ -95,7 +95,8 @@ impl Task {
     }
 }
 
-// The judgement on a set: its refusal, if it has one, and its hyper-period, if that is at most 4,096.
+// The judgement on a set: its refusal, if it has one, and its hyper-period, if that is at most 4,096. (No Result: the hyper-period is told of a
+// refused set too.)
 #[derive(Clone, Copy, Debug, PartialEq, Eq)]
 pub struct Judged {
     pub refusal: Option<Refusal>,

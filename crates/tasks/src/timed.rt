@@ -179,7 +179,8 @@ impl Timed {
     }
 }
 
-// What a slot does to one task: whether it ends the slot well and begins the next one live, and its progress then.
+// What a slot does to one task: whether it ends the slot well and begins the next one live, and its progress then. (No Option: the progress is
+// told in any case.)
 #[derive(Clone, Copy, Debug, PartialEq, Eq)]
 pub struct Passed {
     pub well: bool,

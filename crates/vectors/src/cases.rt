@@ -1,7 +1,7 @@
 // The three kinds of cases.
 use crate::read::{Fields, number, values};
 use crate::records;
-use crate::write::{Faults, Set, Text, into_signs, slot_sign};
+use crate::write::{Faults, NO_SLOT, Set, Text, into_signs, slot_sign};
 use planner::{Answer, Word};
 use player::State;
 use std::alloc::Global;
@@ -9,12 +9,14 @@ use std::io;
 use std::io::Write;
 use tasks::{IDLE, TaskSet};
 
-// What a lent table and area hold, numbers that no reply holds.
-const NO_SLOT: u8 = 238;
-
+// A lent area's numbers, a number that no reply holds.
 const NO_NUMBER: u16 = 60000;
 
-// The most records that are shown.
+// The most slots of a table and numbers of an area that are lent, and the most records that are shown.
+const SLOTS: usize = 5000;
+
+const NUMBERS: usize = 24000;
+
 const SHOWN: usize = 12;
 
 // The reader's reply to a list.
@@ -98,8 +100,8 @@ pub fn planning<W: Write>(
     let Ok(set) = list::read(list) else {
         return reading(out, list);
     };
-    let slots = fields.next().map_or(0, number).min(5000);
-    let numbers = fields.next().map_or(0, number).min(24000);
+    let slots = fields.next().map_or(0, number).min(SLOTS);
+    let numbers = fields.next().map_or(0, number).min(NUMBERS);
     let mut table = vec![in alloc; NO_SLOT; slots]?;
     let mut area = vec![in alloc; NO_NUMBER; numbers]?;
     planned(alloc, out, &set, &mut table, &mut area)

@@ -4,6 +4,9 @@ use std::fmt;
 use std::fmt::{Display, Formatter};
 use tasks::{IDLE, Task, TaskSet};
 
+// A lent table's bytes, a number that no reply holds.
+pub const NO_SLOT: u8 = 238;
+
 // A byte as the script writes it.
 #[derive(Drop)]
 struct Byte(u8);
@@ -45,7 +48,7 @@ impl Display for Text<'_> {
 pub fn slot_sign(entry: u8) -> u8 {
     match entry {
         IDLE => b'.',
-        238 => b'_',
+        NO_SLOT => b'_',
         0..=7 => b'1' + entry,
         _ => b'?',
     }

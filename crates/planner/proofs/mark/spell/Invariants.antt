@@ -4,4 +4,3 @@ use Rattle.planner.proofs.mark.spell.Given as goal
 
 abbrev pub invariant-loop-slot : goal.invariant-loop-slot
 invariant-loop-slot l = Spelling l.n l.rows l.h l.initial.table l.slot l.table l.progress
-

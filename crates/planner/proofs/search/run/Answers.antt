@@ -2,17 +2,17 @@
 use Rattle.planner.proofs.Repeats.{underway-start, step_fits, underway-step, step_less, stops}
 use Rattle.planner.proofs.search.run.Goals as goal
 
-pub loop-on-init : goal.loop-on-init
-loop-on-init c = underway-start _ _ _ _ _ _ c.requires
+pub loop-answer-init : goal.loop-answer-init
+loop-answer-init c = underway-start _ _ _ _ _ _ c.requires
 
 pub step-requires : goal.step-requires
-step-requires c = step_fits _ _ _ _ _ _ _ _ _ c.loop-on.invariant
+step-requires c = step_fits _ _ _ _ _ _ _ _ _ c.loop-answer.invariant
 
-pub loop-on-smaller : goal.loop-on-smaller
-loop-on-smaller c = step_less _ _ _ _ _ _ _ _ _ c.loop-on.invariant _ _ _ c.in-Going.ensures
+pub loop-answer-smaller : goal.loop-answer-smaller
+loop-answer-smaller c = step_less _ _ _ _ _ _ _ _ _ c.loop-answer.invariant _ _ _ (rw c.in_default.is at c.step.ensures)
 
-pub loop-on-preserved : goal.loop-on-preserved
-loop-on-preserved c = underway-step _ _ _ _ _ _ _ _ _ c.loop-on.invariant _ _ _ c.in-Going.ensures
+pub loop-answer-preserved : goal.loop-answer-preserved
+loop-answer-preserved c = underway-step _ _ _ _ _ _ _ _ _ c.loop-answer.invariant _ _ _ (rw c.in_default.is at c.step.ensures)
 
-pub returns-in-Ended : goal.returns-in-Ended
-returns-in-Ended c = stops _ _ _ _ _ _ _ _ _ c.loop-on.invariant _ _ _ c.in-Ended.ensures
+pub returns-in-Some : goal.returns-in-Some
+returns-in-Some c = stops _ _ _ _ _ _ _ _ _ c.loop-answer.invariant _ _ _ _ c.in-Some.ensures
