@@ -1,7 +1,7 @@
 -- An array made place by place: what a loop over the first places keeps, and what its view is at the end.
 use mathlib.Core.Path.{◌≡◌, refl, sym, ap, ◌∙◌}
 use mathlib.Core.Logic.{◌⊎◌, inl, inr}
-use mathlib.Core.List.{List, [], ◌∷◌, ◌++◌, map}
+use mathlib.Core.List.{List, [], ◌∷◌, ◌++◌}
 use Prim.Native.Nat.{ℕ, zero, suc, ◌+◌, ◌-◌, ◌≤◌, ◌<◌}
 use native.Mathlib.Omega.{arith}
 use lib.ListN.{length, get_or, set, replicate, length-append, length-set, length-replicate, get_or-replicate, replicate-append-replicate, get_or-eq_default}
@@ -80,10 +80,3 @@ module _ {A B : Type 0} (m : ℕ) (v : A → B) (d : A) (x : B) (xs : List B) wh
           beyond : (k : ℕ) → (i ≤ k) ⊎ (k < i) → length xs ≤ k → k < m → v (get_or l k d) ≡ get_or xs k x
           beyond k (inl u) n q = s.rest k u q ∙ sym (get_or-eq_default xs x n)
           beyond k (inr u) n q = s.done k u
-
--- ── maps by place ───────────────────────────────────────────────────────────
-
-pub map_at : {A B : Type 0} (f : A → B) (l : List A) (i : ℕ) (a : A) (b : B) → i < length l → get_or (map f l) i b ≡ f (get_or l i a)
-map_at f [] i a b h = absurd (omega arith)
-map_at f (y ∷ ys) zero a b h = refl
-map_at f (y ∷ ys) (suc i) a b h = map_at f ys i a b (omega arith)

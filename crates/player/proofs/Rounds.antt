@@ -2,13 +2,14 @@
 use mathlib.Core.Path.{◌≡◌, refl, sym, ap, ◌∙◌}
 use mathlib.Core.Logic.{◌⊎◌, inl, inr}
 use mathlib.Core.Bool.{Bool, true, false, cond, ◌&&◌}
-use mathlib.Core.List.{List, [], ◌∷◌}
+use mathlib.Core.List.{List}
 use Prim.Native.Nat.{ℕ, zero, suc, ◌+◌, ◌≤◌, ◌<◌}
 use native.Mathlib.Omega.{arith}
 use lib.Dec.{T, ltb}
 use lib.ListN.{length, get_or, set, replicate}
 use borrow.Author.Tests.{lt-ltb, le-ltb, ne_eqb}
 use Rattle.std.specs.Prelude.{Option, Some, None, min}
+use Rattle.std.proofs.lemmas.List.{get_or_default}
 use Rattle.rules.specs.Lists.{tabulate, padded}
 use Rattle.rules.specs.Tasks as tasks
 use Rattle.rules.specs.Positions.{idle}
@@ -48,12 +49,6 @@ told-three τ (model.Stopped c) ran j n = refl
 pub turn-capped : (st : State) (entry i n : ℕ) → turn_for st entry i (min n 3) ≡ turn_for st entry i n
 unfolding turn_for turn
 turn-capped st entry i n = capped (turn_for st entry i) (λ n. rw (told-three _ _ _ _ n)) n
-
--- past no end, what is read there does not matter
-pub read : (l : List ℕ) (i a b : ℕ) → i < length l → get_or l i a ≡ get_or l i b
-read [] i a b h = absurd (omega arith)
-read (x ∷ xs) zero a b h = refl
-read (x ∷ xs) (suc i) a b h = read xs i a b (omega arith)
 
 -- ── who runs ────────────────────────────────────────────────────────────────
 
@@ -150,7 +145,7 @@ module _ (st : State) (table reports : List ℕ) (entry : ℕ) (ok : T (form (st
   each = tasks-are st ok ∙ sym counted
 
   owner : get_or table st.slot idle ≡ entry
-  owner = read table st.slot idle 0 within ∙ sym ee
+  owner = get_or_default table st.slot idle 0 within ∙ sym ee
 
   small : length reports ≤ 8
   small = let f = few st ok in omega arith

@@ -9,7 +9,7 @@ use lib.Dec.{T}
 use lib.ListN.{length, get_or, take, drop, set, replicate, length-append, length-map, length-replicate, get_or-replicate, drop_of_length-le}
 use lib.Seq.{drop-cons, length-take-le, get_or-take, ext_get_or}
 use borrow.Author.Tests.{eq-eqb, ne_eqb}
-use Rattle.std.proofs.lemmas.List.{drop-replicate, map-append}
+use Rattle.std.proofs.lemmas.List.{drop-replicate, map-append, get_or-map}
 use Rattle.std.specs.Prelude.{None, Ok, Err}
 use Rattle.rules.specs.Lists.{tabulate, padded}
 use Rattle.rules.specs.Positions.{idle, each, passed, ended, restarted, next, live_position, legal, start}
@@ -33,7 +33,7 @@ use Rattle.player.specs.declared.Job.{Job}
 use Rattle.player.specs.declared.State.{State}
 use Rattle.player.specs.Answers.{StartAnswer, start_answer, started_of}
 use Rattle.player.specs.Views.{job_of, no_job, eight, jobs_of, state_of}
-use Rattle.player.proofs.Arrays.{Made, made-start, made-step, made-end, map_at, padded-length, padded-same}
+use Rattle.player.proofs.Arrays.{Made, made-start, made-step, made-end, padded-length, padded-same}
 use Rattle.player.proofs.Views.{listed, jobs-map, map-replicate}
 
 -- ── the set tidied ──────────────────────────────────────────────────────────
@@ -59,7 +59,7 @@ module _ (ts : List Task) where
   tidy-length = length-map (map entry_of ts) tidy_task ∙ length-map ts entry_of
 
   tidy-at : (i : ℕ) (d : Task) → i < length ts → get_or tidy i blank_task ≡ tidy_task (entry_of (get_or ts i d))
-  tidy-at i d h = let l = length-map ts entry_of in map_at tidy_task (map entry_of ts) i no_record blank_task (omega arith) ∙ ap tidy_task (map_at entry_of ts i d no_record h)
+  tidy-at i d h = let l = length-map ts entry_of in get_or-map tidy_task (map entry_of ts) i no_record blank_task (omega arith) ∙ ap tidy_task (get_or-map entry_of ts i d no_record h)
 
   -- the entries before place i are tidy, and blank ones follow
   pub record Tidied (i : ℕ) (out : List Task) : Type 0 where

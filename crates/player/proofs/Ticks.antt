@@ -29,7 +29,7 @@ use Rattle.player.specs.Answers.{TickAnswer, tick_answer, ticked_of}
 use Rattle.player.proofs.Views.{eight-same}
 use Rattle.player.proofs.Starts.{onward-length}
 use Rattle.player.proofs.InForm.{tasks-are, slot-below}
-use Rattle.player.proofs.Rounds.{read}
+use Rattle.std.proofs.lemmas.List.{get_or_default}
 
 module _ (st : State) (table reports : List ℕ) where
   abbrev asked : TickAnswer
@@ -83,7 +83,7 @@ module _ (st : State) (table reports : List ℕ) where
         place-same = ap (λ ps. record { slot = st.slot; progress = ps }) (rw (eight-same st.planned eights, tasks-are st ok))
 
         entry-same : get_or table st.slot idle ≡ get_or table st.slot 0
-        entry-same = read table st.slot idle 0 (let b = slot-in in omega arith)
+        entry-same = get_or_default table st.slot idle 0 (let b = slot-in in omega arith)
 
         fits-same : entry_fits (set_of st.set) (in_use (state_of st)) table ≡ legal (set_of st.set) (position_of st.set st.slot st.planned) (get_or table st.slot 0)
         unfolding entry_fits in_use state_of
