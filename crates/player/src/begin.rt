@@ -28,6 +28,7 @@ fn tidy_set(set: &TaskSet) -> TaskSet
     ensures { record_of result ≡ tidied (record_of set.now) }
 {
     let mut tasks = [Task::default(); 8];
+    // By place: of a struct that is written through `iter_mut` nothing is known.
     for (i, task) in set.used().iter().enumerate() {
         tasks[i] = tidy_task(task);
     }

@@ -58,6 +58,7 @@ impl Formed {
         let mut jobs = [Job::default(); 8];
         let mut faults = [None; 8];
         let mut runner = None;
+        // By place: of a struct that is written through `iter_mut` nothing is known.
         for (i, report) in reports.iter().enumerate() {
             let taken = self.turn(i, entry).take(Report::from(*report));
             jobs[i] = taken.job;
