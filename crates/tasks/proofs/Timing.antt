@@ -1,23 +1,19 @@
 -- Laws of a timed task: where progress stands, entry by entry, and what its length says of laxity.
 use mathlib.Core.Path.{◌≡◌, refl, sym, ap, ◌∙◌}
 use mathlib.Core.Bool.{Bool, true, false, not, cond, ◌&&◌, ◌||◌, and-true, and-false}
-use mathlib.Core.List.{List}
-use Prim.Native.Nat.{ℕ, suc, ◌+◌, ◌-◌, ◌%◌, ◌≤◌, ◌<◌}
+use Prim.Native.Nat.{ℕ, suc, ◌+◌, ◌%◌, ◌≤◌, ◌<◌}
 use native.Mathlib.Nat.{mod-zero, mod-eq_of_lt}
 use native.Mathlib.Numerals.{add-one}
 use native.Mathlib.Omega.{arith}
-use borrow.Author.Tests.{eqb-true, eqb-false, eq-eqb, ne_eqb, lt-ltb, le-ltb, le-leb, lt-leb}
+use borrow.Author.Tests.{eqb-true, eqb-false, le-leb, lt-leb}
 use lib.IntN.{ℤ, pos}
-use mathlib.Core.Logic.{◌⊎◌, inl, inr}
-use Rattle.rules.proofs.Laws.{le-or-lt}
 use lib.Signed.{le_z}
 use mir.Syntax.{w16, w32}
 use mir.Val.{Fits, SFits, to_z, of_z}
 use mir.Facts.{to_z-of_z}
 use lib.Dec.{leb, eqb}
-use lib.ListN.{length, get_or, take, drop, drop_of_length-le}
-use lib.Seq.{drop-cons}
-use Rattle.rules.specs.Tasks.{Task, is_done, standing, Standing, ready, waiting, done, within, sum, span}
+use lib.ListN.{length, take}
+use Rattle.rules.specs.Tasks.{Task, is_done, standing, sum, span}
 use Rattle.rules.specs.Positions.{moved, in_time, laxity}
 use Rattle.tasks.specs.declared.timed.Timed.{Timed}
 use Rattle.tasks.specs.Timed.{timed_task}
@@ -28,45 +24,6 @@ use Rattle.tasks.specs.Views.{task_of, standing_of}
 use Rattle.tasks.specs.Slots.{onward, well_at, well_after}
 use Rattle.tasks.proofs.Slotwise.{starts-full, pass-over, pass-amid}
 use Rattle.tasks.proofs.OneTask.{undone-below, done-from, undone-till, in-time-done, in-time-left, pattern-short, pattern-take}
-
--- of two kinds by turns, that of entry i
-abbrev pub turn : Standing → Standing → ℕ → Standing
-turn a b i = cond (eqb (i % 2) 0) a b
-
-turn-next : (a b : Standing) (i : ℕ) → turn b a i ≡ turn a b (i + 1)
-turn-next a b i = go (le-or-lt (i % 2) 0)
-  where
-    go : (i % 2 ≤ 0) ⊎ (0 < i % 2) → turn b a i ≡ turn a b (i + 1)
-    go (inl h) = rw (eq-eqb (i % 2) 0 (omega arith), ne_eqb ((i + 1) % 2) 0 (λ z. omega arith))
-    go (inr h) = rw (ne_eqb (i % 2) 0 (λ z. omega arith), eq-eqb ((i + 1) % 2) 0 (omega arith))
-
--- how progress stands in the entries from i on
-abbrev pub rest_stands : List ℕ → ℕ → ℕ → Standing
-rest_stands ns i p = within (turn ready waiting i) (turn waiting ready i) (drop i ns) p
-
-module _ (ns : List ℕ) (i p : ℕ) where
-  -- inside entry i
-  within-here : i < length ns → p < get_or ns i 0 → rest_stands ns i p ≡ turn ready waiting i
-  unfolding within
-  within-here h k = rw (drop-cons ns i 0 h, lt-ltb p (get_or ns i 0) k)
-
-  pub within-step : i < length ns → p < get_or ns i 0 → i % 2 ≡ 0 → rest_stands ns i p ≡ ready
-  within-step h k e = within-here h k ∙ rw (eq-eqb (i % 2) 0 e)
-
-  pub within-wait : i < length ns → p < get_or ns i 0 → (i % 2 ≡ 0 → ⊥) → rest_stands ns i p ≡ waiting
-  within-wait h k n = within-here h k ∙ rw (ne_eqb (i % 2) 0 n)
-
-  -- past it
-  pub within-more : i < length ns → get_or ns i 0 ≤ p → rest_stands ns i p ≡ rest_stands ns (i + 1) (p - get_or ns i 0)
-  unfolding within
-  within-more h k = rw (← turn-next ready waiting i, ← turn-next waiting ready i, drop-cons ns i 0 h, le-ltb p (get_or ns i 0) k, add-one)
-
-  -- past all
-  pub within-end : length ns ≤ i → rest_stands ns i p ≡ done
-  unfolding within
-  within-end h = rw (drop_of_length-le ns h)
-
-pub ruleset withins = (within-step, within-wait, within-more, within-end)
 
 -- ── the time since release ──────────────────────────────────────────────────
 

@@ -26,6 +26,22 @@ fn total(units: &[u8]) -> u16
     units.iter().map(|units| u16::from(*units)).sum()
 }
 
+// The place in a pattern at which progress stands; the number of entries if it is past them.
+#[tactic(auto, using(crate::proofs::OneTask::place_laws))]
+pub(crate) fn place_in(entries: &[u8], progress: u16) -> usize
+    ensures { result ≡ place_of entries.now progress }
+{
+    let mut left = u32::from(progress);
+    for (place, units) in entries.iter().enumerate() {
+        let units = u32::from(*units);
+        if left < units {
+            return place;
+        }
+        left -= units;
+    }
+    entries.len()
+}
+
 impl Task {
     // The number of entries in use: 2m - 1, at most the seven of the array.
     pub fn fields(&self) -> usize
@@ -59,20 +75,11 @@ impl Task {
         total(self.entries())
     }
 
-    #[tactic(auto, using(crate::proofs::OneTask::place_laws))]
     // The place in the pattern at which progress stands: 2k is step k + 1, 2k + 1 the wait behind it, and the number of entries is done.
     pub fn place_at(&self, progress: u16) -> usize
         ensures { result ≡ place_of (task_of self.now).pattern progress }
     {
-        let mut left = progress;
-        for (place, units) in self.entries().iter().enumerate() {
-            let units = u16::from(*units);
-            if left < units {
-                return place;
-            }
-            left -= units;
-        }
-        self.fields()
+        place_in(self.entries(), progress)
     }
 
     #[tactic(auto, unfolding(rules::specs::Positions::starts, crate::specs::Views::task_of, crate::specs::Views::entry_of, rules::specs::Records::task_in))]

@@ -5,7 +5,7 @@ ghost use Rattle.rules.specs.Tasks.{sum, standing};
 ghost use Rattle.rules.specs.Positions.{moved, laxity, in_time};
 ghost use Rattle.tasks.specs.Slots.{onward, well_after, well_at};
 
-use crate::pattern::since;
+use crate::pattern::{place_in, since};
 use crate::{Standing, Task};
 
 // A task: period T, deadline D, length L, and the pattern, of which the first entries are in use.
@@ -52,22 +52,17 @@ impl Timed {
     ghost use Rattle.tasks.specs.Timed.{timed_task};
 
     // Ready inside a step, waiting inside a wait, done at L.
-    #[tactic(auto, using(crate::proofs::Timing::withins), unfolding(crate::specs::Timed::timed_task, crate::specs::Views::standing_of, rules::specs::Tasks::standing))]
     pub fn standing_at(&self, progress: u16) -> Standing
         ensures { standing_of result ≡ standing (timed_task self.now) progress }
     {
-        let mut left = u32::from(progress);
-        for (i, entry) in self.pattern[..self.entries].iter().enumerate() {
-            let units = u32::from(*entry);
-            if left < units {
-                if i % 2 == 0 {
-                    return Standing::Ready;
-                }
-                return Standing::Waiting;
-            }
-            left -= units;
+        let place = place_in(&self.pattern[..self.entries], progress);
+        if self.entries <= place {
+            Standing::Done
+        } else if place % 2 == 0 {
+            Standing::Ready
+        } else {
+            Standing::Waiting
         }
-        Standing::Done
     }
 
     // The time since release at a slot. (A period of 0, which no admissible task has, leaves the slot.)
