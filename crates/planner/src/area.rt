@@ -3,6 +3,8 @@ ghost use Rattle.std.specs.Prelude.{◌≡◌, ◌∷◌, ◌++◌, ◌+◌, ◌
 ghost use Rattle.rules.specs.Lists.{same_list};
 ghost use Rattle.planner.specs.Area.{among};
 
+use tasks::IDLE;
+
 #[tactic(auto, using(crate::proofs::Records::alike))]
 // Whether the record at a place of the area is that of a slot and n tasks' progress.
 fn same_record(area: &[u16], at: usize, n: usize, slot: u16, progress: &[u16; 8]) -> bool
@@ -41,5 +43,5 @@ pub(crate) fn fill(table: &mut [u8], h: usize)
     requires { h ≤ length table.old }
     ensures { table.new ≡ replicate h 255 ++ drop h table.old }
 {
-    table[..h].fill(255);
+    table[..h].fill(IDLE);
 }

@@ -6,8 +6,8 @@ ghost use Rattle.tasks.specs.Timed.{timed_task};
 ghost use Rattle.planner.specs.Rows.{row_tasks, Laid, Modest};
 ghost use Rattle.planner.specs.Marks.{lowered, raised, unstarted, chosen, spelled, Listed};
 
-use tasks::Standing;
 use tasks::timed::Timed;
+use tasks::{IDLE, Standing};
 
 // A task's progress at the end of the slot before, from that at the start of `slot`.
 #[tactic(auto, using(crate::proofs::Loops::end_laws))]
@@ -61,7 +61,7 @@ pub(crate) fn choice_from(rows: &[Timed; 8], n: usize, before: &[u16; 8], mark: 
         }
         bits /= 2;
     }
-    255
+    IDLE
 }
 
 // The progress in the next slot, from that before a slot and the slot's mark.

@@ -30,6 +30,7 @@ pub struct Search {
 }
 
 // What a search is given and leaves as it is: the rows of n tasks, the slots of their hyper-period, and the room for records.
+// (No ghost fields: `Fits` and its kin bind these numbers to the search and to both lent buffers, which change with each step.)
 #[derive(Clone, Copy)]
 pub(crate) struct Frame<'a> {
     pub rows: &'a [Timed; 8],
@@ -71,6 +72,7 @@ fn first_task(
         return None;
     };
     for i in from as usize..n {
+        // (Two tests: after one, `if let .. && ..`, the proof does not know that a task passed over has no way.)
         if let Some(to) = go[i] {
             if urgent.allows(i as u8) {
                 let unchosen = stay[i];
@@ -86,6 +88,7 @@ fn first_task(
 }
 
 // The first choice that leads to a live position which is not recorded is added to the list; where there is none, all are tried.
+// (In place: a search handed on by value makes planning up to a tenth slower.)
 fn lead_on(frame: Frame<'_>, at: &mut Search, choice: Choice, table: &mut [u8], area: &[u16])
     requires { Trying frame.n frame.rows.now at.old choice table.old area.now }
     ensures { Tries (row_tasks frame.entry.n frame.entry.rows.now) (machine_of frame.entry.n at.old table.old area.now) (machine_of frame.entry.n at.new table.new area.now) }

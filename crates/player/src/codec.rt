@@ -108,7 +108,7 @@ fn jobs_in(bytes: &[u8; STATE_SIZE]) -> Option<[Job; 8]>
     Some(jobs)
 }
 
-// The bytes of each job.
+// The bytes of each job. (A loop, here and below: of `jobs.map(|job| job.to_bytes())` the check learns the length and nothing more.)
 #[tactic(auto, using(crate::proofs::Pieces::piece_laws), unfolding(crate::specs::Views::jobs_of))]
 fn jobs_to_bytes(jobs: &[Job; 8]) -> [[u8; JOB_SIZE]; 8]
     ensures { result ≡ map job_bytes (jobs_of jobs.now) }
