@@ -1,13 +1,13 @@
 -- What a slot does to a task in the code's terms, and what the look ahead keeps, from the last task down.
-use mathlib.Core.Path.{◌≡◌, refl, sym, ap, ◌∙◌}
+use mathlib.Core.Path.{◌≡◌, refl, sym, ◌∙◌}
 use mathlib.Core.Logic.{◌⊎◌, inl, inr}
 use mathlib.Core.Bool.{Bool, true, false, not, cond}
 use mathlib.Core.List.{List, map}
-use Rattle.std.specs.Prelude.{Option, None}
+use Rattle.std.specs.Prelude.{Option}
 use Prim.Native.Nat.{ℕ, zero, suc, ◌+◌, ◌-◌, ◌*◌, ◌%◌, ◌≤◌, ◌<◌}
 use native.Mathlib.Numerals.{add-one}
 use native.Mathlib.Omega.{arith}
-use borrow.Author.Tests.{ne_eqb, not-true, not-false}
+use borrow.Author.Tests.{eq-eqb, ne_eqb, not-true, not-false}
 use lib.Dec.{eqb}
 use mir.Syntax.{w16}
 use mir.Val.{Fits, bool_byte}
@@ -56,30 +56,32 @@ module _ (t : ℕ) (τ : Task) (p since : ℕ) (k : code.Standing) (stands : sta
   unfolding onward
   onward-at q = rw (e, starts-full t τ)
 
-  -- where its progress and, if it is chosen, that in the next slot are such a pair
-  abbrev pub Turned : ℕ × Option ℕ → Type 0
-  Turned turned = (turned.0 ≡ stayed τ p) × (one_more turned.1 ≡ gone t τ p)
-
-  pub turned-ready : k ≡ Ready → (turned : ℕ × Option ℕ) (go : Option ℕ) → turned ≡ (p, go)
-      → one_more go ≡ cond (well_at since τ (p + 1)) (suc (cond (eqb since τ.period) 0 (p + 1))) 0 → Turned turned
+  pub way-ready : k ≡ Ready → (well : Bool) → well ≡ well_at since τ p → (stay : ℕ) → stay ≡ cond (eqb since τ.period) 0 p
+      → (go : ℕ) → go ≡ cond (well_at since τ (p + 1)) (suc (cond (eqb since τ.period) 0 (p + 1))) 0 → IsWay t τ p false well stay go
   unfolding stayed moved gone is_ready standing_of
-  turned-ready h turned go f g = rw f (rw (← stands, h, ← add-one p) (refl, g ∙ rw (well-at (p + 1), onward-at (p + 1))))
+  way-ready h well w stay f go g = record {
+    rising = rw (← stands, h, eq-eqb p p refl);
+    ending = rw (← stands, h) (w ∙ well-at p);
+    staying = rw (← stands, h) (f ∙ onward-at p);
+    going = rw (← stands, h, ← add-one p) (g ∙ rw (well-at (p + 1), onward-at (p + 1)));
+  }
 
-  pub turned-waiting : k ≡ Waiting → (turned : ℕ × Option ℕ) → turned ≡ (p + 1, None) → Turned turned
+  pub way-waiting : k ≡ Waiting → (well : Bool) → well ≡ well_at since τ (p + 1) → (stay : ℕ) → stay ≡ cond (eqb since τ.period) 0 (p + 1) → IsWay t τ p true well stay 0
   unfolding stayed moved gone is_ready standing_of
-  turned-waiting h turned f = rw f (rw (← stands, h) (add-one p, refl))
+  way-waiting h well w stay f = record {
+    rising = rw (← stands, h, ne_eqb p (suc p) (λ z. omega arith));
+    ending = rw (← stands, h, ← add-one p) (w ∙ well-at (p + 1));
+    staying = rw (← stands, h, ← add-one p) (f ∙ onward-at (p + 1));
+    going = rw (← stands, h);
+  }
 
-  pub turned-done : k ≡ Done → (turned : ℕ × Option ℕ) → turned ≡ (p, None) → Turned turned
+  pub way-done : k ≡ Done → (well : Bool) → well ≡ well_at since τ p → (stay : ℕ) → stay ≡ cond (eqb since τ.period) 0 p → IsWay t τ p false well stay 0
   unfolding stayed moved gone is_ready standing_of
-  turned-done h turned f = rw f (rw (← stands, h) (refl, refl))
-
-  pub way-is : (turned : ℕ × Option ℕ) → Turned turned → (well : Bool) → well ≡ well_at since τ turned.0 → (stay : ℕ) → stay ≡ cond (eqb since τ.period) 0 turned.0
-      → IsWay t τ p (not (eqb p turned.0)) well stay (one_more turned.1)
-  way-is turned e well w stay f = record {
-    rising = ap (λ q. not (eqb p q)) e.0;
-    ending = w ∙ well-at turned.0 ∙ ap (well_after t τ) e.0;
-    staying = f ∙ onward-at turned.0 ∙ ap (onward t τ) e.0;
-    going = e.1;
+  way-done h well w stay f = record {
+    rising = rw (← stands, h, eq-eqb p p refl);
+    ending = rw (← stands, h) (w ∙ well-at p);
+    staying = rw (← stands, h) (f ∙ onward-at p);
+    going = rw (← stands, h);
   }
 
 pub ruleset way_laws = (below-ready, below_waiting)

@@ -29,22 +29,31 @@ fn go_from(task: &Timed, since: Since, end: u16) -> Option<u16>
     }
 }
 
-// What a slot does to a task.
+// What a slot does to a task. (With one `Ways` for the three standings planning takes 6% longer, and misses its bar.)
 #[tactic(auto, using(crate::proofs::Outlooks::way_laws))]
 fn ways_of(task: &Timed, slot: u16, progress: u16) -> Ways
     ensures { IsWay slot (timed_task task.now) progress result.rises result.well result.stay (one_more result.go) }
 {
     let since = task.since_end(slot);
-    let (end, go) = match task.standing_at(progress) {
-        Standing::Ready => (progress, go_from(task, since, progress + 1)),
-        Standing::Waiting => (progress + 1, None),
-        Standing::Done => (progress, None),
-    };
-    Ways {
-        rises: progress != end,
-        well: task.ends_well(since, end),
-        stay: task.begun(since, end),
-        go,
+    match task.standing_at(progress) {
+        Standing::Ready => Ways {
+            rises: false,
+            well: task.ends_well(since, progress),
+            stay: task.begun(since, progress),
+            go: go_from(task, since, progress + 1),
+        },
+        Standing::Waiting => Ways {
+            rises: true,
+            well: task.ends_well(since, progress + 1),
+            stay: task.begun(since, progress + 1),
+            go: None,
+        },
+        Standing::Done => Ways {
+            rises: false,
+            well: task.ends_well(since, progress),
+            stay: task.begun(since, progress),
+            go: None,
+        },
     }
 }
 
