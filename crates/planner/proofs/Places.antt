@@ -17,15 +17,16 @@ use Rattle.tasks.specs.Views.{task_of, set_of}
 use Rattle.tasks.specs.declared.TaskSet.{TaskSet}
 use Rattle.tasks.proofs.Timing.{whole-is}
 use Rattle.tasks.proofs.Positions.{set-fits}
+use Rattle.planner.specs.declared.rows.Rows.{Rows}
 use Rattle.planner.specs.Rows.{task_at, row_tasks}
 
-pub rows-length : (n : ℕ) (rows : List Timed) → length (row_tasks n rows) ≡ n
+pub rows-length : (rows : Rows) → length (row_tasks rows) ≡ rows.count
 unfolding row_tasks
-rows-length n rows = tabulate-length (task_at rows) 0 n
+rows-length rows = tabulate-length (task_at rows.tasks) 0 rows.count
 
-pub row_at : (n : ℕ) (rows : List Timed) (i : ℕ) → i < n → get_or (row_tasks n rows) i no_task ≡ task_at rows i
+pub row_at : (rows : Rows) (i : ℕ) → i < rows.count → get_or (row_tasks rows) i no_task ≡ task_at rows.tasks i
 unfolding row_tasks
-row_at n rows i h = tabulate-at (task_at rows) 0 n i no_task h ∙ ap (task_at rows) (omega arith)
+row_at rows i h = tabulate-at (task_at rows.tasks) 0 rows.count i no_task h ∙ ap (task_at rows.tasks) (omega arith)
 
 -- a row that is there, as the code reads it
 pub row_is : (rows : List Timed) (i : ℕ) (d : Timed) → i < length rows → timed_task (get_or rows i d) ≡ task_at rows i
@@ -65,14 +66,13 @@ module _ (tasks : List code.Task) where
           rw z (get_or-set_same (map timed_task rows) i (timed_task r) no_task (omega arith) ∙ e ∙ sym (get_or-map task_of tasks i d no_task h))
       go j (inr l) k = get_or-set_other (map timed_task rows) i j (timed_task r) no_task (λ z. let y : ⊥ = omega arith in y) ∙ v.done j l
 
-  pub laying-end : (s : TaskSet) (i : ℕ) (rows : List Timed) → map task_of tasks ≡ set_of s → Laying i rows → length tasks ≤ i → row_tasks (length (set_of s)) rows ≡ set_of s
-  laying-end s i rows all v h =
-      let n = length (set_of s) in
-      let l = rows-length n rows in
+  pub laying-end : (s : TaskSet) (i : ℕ) (rows : Rows) → map task_of tasks ≡ set_of s → Laying i rows.tasks → length tasks ≤ i → rows.count ≡ length tasks → row_tasks rows ≡ set_of s
+  laying-end s i rows all v h many =
+      let l = rows-length rows in
       let f = length-map tasks task_of in
       let e = ap length all in
-      ext_get_or no_task (row_tasks n rows) (set_of s) l
-      (λ j k. row_at n rows j (omega arith) ∙ v.done j (omega arith) ∙ ap (λ (τs : List Task). get_or τs j no_task) all)
+      ext_get_or no_task (row_tasks rows) (set_of s) (omega arith)
+      (λ j k. row_at rows j (omega arith) ∙ v.done j (omega arith) ∙ ap (λ (τs : List Task). get_or τs j no_task) all)
 
 -- the first of the eight zeros that a search begins with
 pub take-replicate : (n k a : ℕ) → n ≤ k → take n (replicate k a) ≡ replicate n a
