@@ -2,7 +2,7 @@
 use mathlib.Core.Path.{◌≡◌, refl, sym, ap, ◌∙◌}
 use mathlib.Core.Logic.{◌⊎◌, inl, inr}
 use mathlib.Core.Bool.{Bool, true, false, cond, ◌&&◌, and-false}
-use mathlib.Core.List.{List, [], ◌∷◌, ◌++◌, append-nil}
+use mathlib.Core.List.{List, [], ◌∷◌, ◌++◌, append-nil, map}
 use Prim.Native.Nat.{ℕ, zero, suc, ◌+◌, ◌-◌, ◌≤◌, ◌<◌, ◌%◌, ◌/◌}
 use native.Mathlib.Nat.{sub-zero}
 use native.Mathlib.Numerals.{add-one}
@@ -26,7 +26,7 @@ use Rattle.tasks.proofs.Timing.{whole-is}
 use Rattle.planner.specs.declared.rows.Rows.{Rows}
 use Rattle.planner.specs.Rows.{task_at, row_tasks, Modest}
 use Rattle.planner.specs.Marks.{mark, lowered, raised, unstarted, chosen, marks, spelled, Listed}
-use Rattle.planner.proofs.Places.{row_small, rows-length, row_at, row_is, take-replicate}
+use Rattle.planner.proofs.Places.{row_small, rows-length, row_at, used-many, used_is, take-replicate}
 use Rattle.planner.proofs.Marks.{legal-allowed, chosen_is, raised-ended, next_fits, start_fits}
 
 -- ── a number for each task ──────────────────────────────────────────────────
@@ -111,12 +111,12 @@ unfolding halved
 lowered-all slot b s ps = sym (lowered-each slot b 0 s ps)
 
 module _ (slot b : ℕ) (rows : Rows) (ps : List ℕ) where
-  pub back_step : (i bits : ℕ) (out : List ℕ) → Filled (back slot b) rows ps i out → bits ≡ halved b i → i < rows.count → length rows.tasks ≡ 8
-      → (d : Timed) (q : ℕ) → q ≡ cond (starts slot (timed_task (get_or rows.tasks i d))) (span (timed_task (get_or rows.tasks i d))) (get_or ps i 0)
+  pub back_step : (i bits : ℕ) (out : List ℕ) → Filled (back slot b) rows ps i out → bits ≡ halved b i → (used : List Timed) → map timed_task used ≡ row_tasks rows → i < length used
+      → (τ : Timed) → τ ≡ get_or used i τ → (q : ℕ) → q ≡ cond (starts slot (timed_task τ)) (span (timed_task τ)) (get_or ps i 0)
       → Filled (back slot b) rows ps (i + 1) (set out i (q - bits % 2))
-  back_step i bits out v e h eight d q f =
-      let m = rows.few in
-      filled-step (back slot b) rows ps i (q - bits % 2) out v h (back_at slot b i (task_at rows.tasks i) (get_or ps i 0) q (q - bits % 2) bits e (rw (row_is rows.tasks i d (omega arith)) at f) refl)
+  back_step i bits out v e used are h τ is q f =
+      let m = used-many rows used are in
+      filled-step (back slot b) rows ps i (q - bits % 2) out v (omega arith) (back_at slot b i (task_at rows.tasks i) (get_or ps i 0) q (q - bits % 2) bits e (rw (used_is rows used are i τ h is) at f) refl)
 
   pub back_end : (i : ℕ) (out : List ℕ) → Filled (back slot b) rows ps i out → rows.count ≤ i → take rows.count out ≡ lowered b (each (unstarted slot) 0 (row_tasks rows) (take rows.count ps))
   back_end i out v h = filled-end (back slot b) rows ps i out v h ∙ lowered-all slot b (row_tasks rows) (take rows.count ps)
@@ -161,14 +161,13 @@ unfolding Modest
 kept-modest n i ps out v m h = rw (kept_at i ps out v) (m i h)
 
 module _ (slot b : ℕ) (rows : Rows) (ps : List ℕ) where
-  pub forth-step : (i bits : ℕ) (out : List ℕ) → Filled (forth slot b) rows ps i out → Kept i ps out → bits ≡ halved b i → i < rows.count → length rows.tasks ≡ 8
-      → (d : Timed) (since r : ℕ) → since ≡ suc (slot % (timed_task (get_or rows.tasks i d)).period) → r ≡ cond (eqb since (timed_task (get_or rows.tasks i d)).period) 0 (get_or out i 0 + bits % 2)
+  pub forth-step : (i bits : ℕ) (out : List ℕ) → Filled (forth slot b) rows ps i out → Kept i ps out → bits ≡ halved b i → (used : List Timed) → map timed_task used ≡ row_tasks rows → i < length used
+      → (τ : Timed) → τ ≡ get_or used i τ → (since r : ℕ) → since ≡ suc (slot % (timed_task τ).period) → r ≡ cond (eqb since (timed_task τ).period) 0 (get_or out i 0 + bits % 2)
       → Filled (forth slot b) rows ps (i + 1) (set out i r)
-  forth-step i bits out v k e h eight d since r g w =
-      let m = rows.few in
-      let a : i < length rows.tasks = omega arith in
-      filled-step (forth slot b) rows ps i r out v h
-      (forth-at slot b i (task_at rows.tasks i) (get_or ps i 0) (get_or out i 0 + bits % 2) since r bits e (rw (kept_at i ps out k)) (rw (row_is rows.tasks i d a) at g) (rw (row_is rows.tasks i d a) at w))
+  forth-step i bits out v k e used are h τ is since r g w =
+      let m = used-many rows used are in
+      filled-step (forth slot b) rows ps i r out v (omega arith)
+      (forth-at slot b i (task_at rows.tasks i) (get_or ps i 0) (get_or out i 0 + bits % 2) since r bits e (rw (kept_at i ps out k)) (rw (used_is rows used are i τ h is) at g) (rw (used_is rows used are i τ h is) at w))
 
   pub forth-end : (i : ℕ) (out : List ℕ) → Filled (forth slot b) rows ps i out → rows.count ≤ i → take rows.count out ≡ each (restarted (suc slot)) 0 (row_tasks rows) (raised b (take rows.count ps))
   forth-end i out v h = filled-end (forth slot b) rows ps i out v h ∙ raised_all slot b (row_tasks rows) (take rows.count ps)
@@ -216,16 +215,19 @@ module _ (b : ℕ) (rows : Rows) (p : List ℕ) where
   pub looked-start : length p ≡ 8 → Looked 0 b
   looked-start e = record { eight = e; rest = refl }
 
-  module _ (i bits : ℕ) (r : Bool) (v : Looked i bits) (h : i < rows.count) (eight : length rows.tasks ≡ 8) (d : Timed)
-      (e : r ≡ eqb (bits % 2) 1 && is_ready (standing (timed_task (get_or rows.tasks i d)) (get_or p i 0))) where
+  module _ (i bits : ℕ) (r : Bool) (v : Looked i bits) (used : List Timed) (are : map timed_task used ≡ row_tasks rows) (h : i < length used) (τ : Timed) (is : τ ≡ get_or used i τ)
+      (e : r ≡ eqb (bits % 2) 1 && is_ready (standing (timed_task τ) (get_or p i 0))) where
+    below : i < rows.count
+    below = let m = used-many rows used are in omega arith
+
     rises : r ≡ eqb (bits % 2) 1 && is_ready (standing (task_at rows.tasks i) (get_or p i 0))
-    rises = let m = rows.few in rw (row_is rows.tasks i d (omega arith)) at e
+    rises = rw (used_is rows used are i τ h is) at e
 
     pub looked-step : r ≡ false → Looked (i + 1) (bits / 2)
-    looked-step f = record { eight = v.eight; rest = v.rest ∙ looked-next i bits v.eight h ∙ rw (← rises, f, add-one) }
+    looked-step f = record { eight = v.eight; rest = v.rest ∙ looked-next i bits v.eight below ∙ rw (← rises, f, add-one) }
 
     pub looked-found : r ≡ true → i ≡ chosen 0 b tasks (take rows.count p)
-    looked-found f = sym (v.rest ∙ looked-next i bits v.eight h ∙ rw (← rises, f))
+    looked-found f = sym (v.rest ∙ looked-next i bits v.eight below ∙ rw (← rises, f))
 
   pub looked-end : (i bits : ℕ) → Looked i bits → rows.count ≤ i → 255 ≡ chosen 0 b tasks (take rows.count p)
   unfolding chosen idle

@@ -4,9 +4,9 @@ use mathlib.Core.List.{List, [], ◌∷◌, map}
 use mathlib.Core.Logic.{◌⊎◌, inl, inr}
 use Prim.Native.Nat.{ℕ, zero, suc, ◌+◌, ◌≤◌, ◌<◌}
 use native.Mathlib.Omega.{arith}
-use lib.Seq.{ext_get_or, map-set, get_or-set_same, get_or-set_other}
+use lib.Seq.{ext_get_or, map-set, get_or-set_same, get_or-set_other, get_or-take, length-take-le}
 use lib.ListN.{length, get_or, take, set, replicate, length-set, length-map}
-use Rattle.std.proofs.lemmas.List.{get_or-map}
+use Rattle.std.proofs.lemmas.List.{get_or-map, take-map}
 use Rattle.rules.specs.Tasks.{Task, no_task, sum, span}
 use Rattle.rules.proofs.Laws.{le-or-lt}
 use Rattle.rules.proofs.Lists.{tabulate-length, tabulate-at}
@@ -38,6 +38,31 @@ unfolding task_at no_task sum span
 row_small [] i = omega arith
 row_small (r ∷ rs) zero = let w = whole-is r in let s = r.small in omega arith
 row_small (r ∷ rs) (suc i) = row_small rs i
+
+-- the tasks in use, as a slice
+module _ (rows : Rows) where
+  pub in-use-many : length rows.tasks ≡ 8 → length (take rows.count rows.tasks) ≡ rows.count
+  in-use-many e = let f = rows.few in length-take-le rows.count rows.tasks (omega arith)
+
+  pub in-use-tasks : length rows.tasks ≡ 8 → map timed_task (take rows.count rows.tasks) ≡ row_tasks rows
+  unfolding task_at
+  in-use-tasks e =
+      let n = rows.count in
+      let f = rows.few in
+      let l = in-use-many e in
+      let m = length-map (take n rows.tasks) timed_task in
+      let r = rows-length rows in
+      ext_get_or no_task (map timed_task (take n rows.tasks)) (row_tasks rows) (omega arith)
+      (λ j k. rw (← take-map timed_task n rows.tasks) (get_or-take n (map timed_task rows.tasks) j no_task (omega arith)) ∙ sym (row_at rows j (omega arith)))
+
+  module _ (used : List Timed) (are : map timed_task used ≡ row_tasks rows) where
+    pub used-many : length used ≡ rows.count
+    used-many = sym (length-map used timed_task) ∙ ap length are ∙ rows-length rows
+
+    pub used_is : (i : ℕ) (τ : Timed) → i < length used → τ ≡ get_or used i τ → timed_task τ ≡ task_at rows.tasks i
+    used_is i τ h e = let m = used-many in ap timed_task e ∙ sym (get_or-map timed_task used i τ no_task h) ∙ ap (λ (τs : List Task). get_or τs i no_task) are ∙ row_at rows i (omega arith)
+
+pub ruleset in_use_laws = (in-use-many, in-use-tasks)
 
 -- the tasks in use are eight at most
 few-tasks : (s : TaskSet) (tasks : List code.Task) → map task_of tasks ≡ set_of s → length tasks ≤ 8

@@ -27,8 +27,8 @@ pub(crate) fn take_back(rows: &Rows, slot: u16, after: [u16; 8], mark: u8) -> [u
 {
     let mut before = [0; 8];
     let mut bits = mark;
-    for i in 0..rows.count {
-        let end = at_end(&rows.tasks[i], slot, after[i]);
+    for (i, task) in rows.in_use().iter().enumerate() {
+        let end = at_end(task, slot, after[i]);
         before[i] = end.saturating_sub((bits % 2) as u16);
         bits /= 2;
     }
@@ -48,8 +48,8 @@ pub(crate) fn choice_from(rows: &Rows, before: &[u16; 8], mark: u8) -> u8
     ensures { result ≡ chosen 0 mark (row_tasks rows.now) (take rows.now.count before.now) }
 {
     let mut bits = mark;
-    for i in 0..rows.count {
-        if rose(&rows.tasks[i], before[i], bits) {
+    for (i, task) in rows.in_use().iter().enumerate() {
+        if rose(task, before[i], bits) {
             return i as u8;
         }
         bits /= 2;
@@ -63,8 +63,7 @@ fn go_along(rows: &Rows, slot: u16, mark: u8, progress: &mut [u16; 8])
     ensures { take rows.now.count progress.new ≡ each (restarted (suc slot)) 0 (row_tasks rows.now) (raised mark (take rows.now.count progress.old)) }
 {
     let mut bits = mark;
-    for i in 0..rows.count {
-        let task = &rows.tasks[i];
+    for (i, task) in rows.in_use().iter().enumerate() {
         let risen = progress[i] + (bits % 2) as u16;
         progress[i] = task.begun(task.since_end(slot), risen);
         bits /= 2;

@@ -13,8 +13,9 @@ pub(crate) struct Rows {
 }
 
 impl Rows {
-    ghost use Rattle.std.specs.Prelude.{◌≡◌};
+    ghost use Rattle.std.specs.Prelude.{◌≡◌, length, map};
     ghost use Rattle.tasks.specs.Views.{set_of};
+    ghost use Rattle.tasks.specs.Timed.{timed_task};
     ghost use Rattle.planner.specs.Rows.{row_tasks};
 
     // The rows of a set. (An array's `map` is dearer: it misses the bar of planning on short tables.)
@@ -31,5 +32,14 @@ impl Rows {
             tasks,
             count: used.len(),
         }
+    }
+
+    // The tasks in use.
+    #[tactic(auto, using(crate::proofs::Places::in_use_laws))]
+    pub(crate) fn in_use(&self) -> &[Timed]
+        ensures tasks { map timed_task result.now ≡ row_tasks self.now }
+        ensures many { length result.now ≡ self.now.count }
+    {
+        &self.tasks[..self.count]
     }
 }
