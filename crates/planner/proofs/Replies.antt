@@ -2,7 +2,7 @@
 use mathlib.Core.Path.{◌≡◌, refl, sym, ap, ◌∙◌}
 use mathlib.Core.Logic.{◌⊎◌, inl, inr}
 use mathlib.Core.Bool.{Bool, true, false, not}
-use mathlib.Core.List.{List, ◌++◌, map}
+use mathlib.Core.List.{List, ◌++◌}
 use Prim.Native.Nat.{ℕ, zero, suc, ◌+◌, ◌≤◌, ◌<◌, ◌/◌}
 use native.Mathlib.Numerals.{add-one}
 use native.Mathlib.Omega.{arith}
@@ -14,10 +14,8 @@ use Rattle.rules.specs.Records.{SetRecord, or_else, set_in, record_refusal}
 use Rattle.rules.specs.Planner.{room, plan_refusal, PlanReply, refuses}
 use Rattle.rules.specs.Planner as model
 use Rattle.rules.proofs.Set.Widths.{hyper-small}
-use Rattle.tasks.specs.declared.Task as code
 use Rattle.tasks.specs.declared.TaskSet.{TaskSet}
-use Rattle.std.proofs.lemmas.List.{length-map}
-use Rattle.tasks.specs.Views.{task_of, record_of, set_of, progress_of, position_of}
+use Rattle.tasks.specs.Views.{record_of, set_of, progress_of, position_of}
 use Rattle.tasks.proofs.Views.{arrays}
 use Rattle.tasks.proofs.Positions.{set-fits}
 use Rattle.planner.specs.declared.Word.{Word}
@@ -38,14 +36,6 @@ use Rattle.planner.proofs.Meets.{reaches-listed, reaches-size, plan-setting, pla
 start-position : (s : TaskSet) → start (set_of s) ≡ position_of s 0 (replicate 8 0)
 unfolding start position_of progress_of
 start-position s = ap {B = Position} (λ l. record { slot = 0; progress = l }) (sym (take-replicate (length (set_of s)) 8 0 (set-fits s).1))
-
--- the tasks in use are as many as the set's
-pub used-many : (s : TaskSet) (u : List code.Task) → map task_of u ≡ set_of s → length u ≡ length (set_of s)
-used-many s u e = sym (length-map u task_of) ∙ ap length e
-
--- the number of tasks and one more
-pub few-more : (s : TaskSet) (n : ℕ) → n ≡ length (set_of s) → n ≤ 8
-few-more s n e = let f = (set-fits s).1 in omega arith
 
 refused-by : (r : SetRecord) (t a : List ℕ) (x : ℕ) → 0 < x → plan_refusal r t ≡ x → PlanReply r t a (model.refused x) t a
 refused-by r t a zero k e = let z : ⊥ = omega arith in absurd z

@@ -1,5 +1,4 @@
 -- `planner::plan` replies as the rules say. Assumes nothing.
-use native.Mathlib.Omega.{arith}
 use Rattle.planner.proofs.Replies.{set-refused-too, table-short, never-begun, opens, may-spell, first_found, none_found}
 use mathlib.Core.Path.{ap}
 use mathlib.Core.Bool.{not}
@@ -13,9 +12,6 @@ returns-then-table-slots c = table-short _ _ _ _ c.in_ok-h.ensures.admitted.0 c.
 
 pub returns-then-not-is_live : goal.returns-then-not-is_live
 returns-then-not-is_live c = never-begun _ _ _ _ c.in_ok-h.ensures.admitted.0 c.in_ok-h.ensures.admitted.1 c.if-table-slots.false _ c.is_live.ensures (ap not c.if-not-is_live.true) _ c.fill.ensures
-
-pub overflow_add-room : goal.overflow_add-room
-overflow_add-room c = let n = c.of-rows.result.few in omega arith
 
 pub run-answer-requires : goal.run-answer-requires
 run-answer-requires c =
