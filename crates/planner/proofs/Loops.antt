@@ -2,7 +2,7 @@
 use mathlib.Core.Path.{◌≡◌, refl, sym, ap, ◌∙◌}
 use mathlib.Core.Logic.{◌⊎◌, inl, inr}
 use mathlib.Core.Bool.{Bool, true, false, cond, ◌&&◌, and-false}
-use mathlib.Core.List.{List, [], ◌∷◌, ◌++◌, append-nil}
+use mathlib.Core.List.{List, [], ◌∷◌, ◌++◌, append-nil, map}
 use Prim.Native.Nat.{ℕ, zero, suc, ◌+◌, ◌-◌, ◌≤◌, ◌<◌, ◌%◌, ◌/◌}
 use native.Mathlib.Nat.{sub-zero}
 use native.Mathlib.Numerals.{add-one}
@@ -23,51 +23,51 @@ use Rattle.tasks.proofs.Slotwise.{starts-full}
 use Rattle.tasks.specs.declared.timed.Timed.{Timed}
 use Rattle.tasks.specs.Timed.{timed_task}
 use Rattle.tasks.proofs.Timing.{whole-is}
-use Rattle.planner.specs.Rows.{task_at, row_tasks, Laid, Modest}
+use Rattle.planner.specs.declared.rows.Rows.{Rows}
+use Rattle.planner.specs.Rows.{task_at, row_tasks, Modest}
 use Rattle.planner.specs.Marks.{mark, lowered, raised, unstarted, chosen, marks, spelled, Listed}
-use Rattle.planner.proofs.Places.{row_small, rows-length, row_at, row_is, take-replicate}
+use Rattle.planner.proofs.Places.{row_small, rows-length, row_at, used-many, used_is, take-replicate}
 use Rattle.planner.proofs.Marks.{legal-allowed, chosen_is, raised-ended, next_fits, start_fits}
 
 -- ── a number for each task ──────────────────────────────────────────────────
 
-module _ (f : ℕ → model.Task → ℕ → ℕ) (n : ℕ) (rows : List Timed) (ps : List ℕ) where
+module _ (f : ℕ → model.Task → ℕ → ℕ) (rows : Rows) (ps : List ℕ) where
   -- the numbers before place i are those of the tasks
   pub record Filled (i : ℕ) (out : List ℕ) : Type 0 where
-    pub few : i ≤ n
-    pub most : n ≤ 8
+    pub few : i ≤ rows.count
     pub long : length ps ≡ 8
     pub eight : length out ≡ 8
-    pub done : (j : ℕ) → j < i → get_or out j 0 ≡ f j (task_at rows j) (get_or ps j 0)
+    pub done : (j : ℕ) → j < i → get_or out j 0 ≡ f j (task_at rows.tasks j) (get_or ps j 0)
 
-  pub filled-start : (out : List ℕ) → n ≤ 8 → length ps ≡ 8 → length out ≡ 8 → Filled 0 out
-  filled-start out m l e = record { few = omega arith; most = m; long = l; eight = e; done = λ j h. let z : ⊥ = omega arith in absurd z }
+  pub filled-start : (out : List ℕ) → length ps ≡ 8 → length out ≡ 8 → Filled 0 out
+  filled-start out l e = record { few = omega arith; long = l; eight = e; done = λ j h. let z : ⊥ = omega arith in absurd z }
 
-  filled-step : (i q : ℕ) (out : List ℕ) → Filled i out → i < n → q ≡ f i (task_at rows i) (get_or ps i 0) → Filled (i + 1) (set out i q)
-  filled-step i q out v h e = record { few = omega arith; most = v.most; long = v.long; eight = length-set out i q ∙ v.eight; done = λ j k. go j (le-or-lt i j) k }
+  filled-step : (i q : ℕ) (out : List ℕ) → Filled i out → i < rows.count → q ≡ f i (task_at rows.tasks i) (get_or ps i 0) → Filled (i + 1) (set out i q)
+  filled-step i q out v h e = record { few = omega arith; long = v.long; eight = length-set out i q ∙ v.eight; done = λ j k. go j (le-or-lt i j) k }
     where
-      go : (j : ℕ) → (i ≤ j) ⊎ (j < i) → j < i + 1 → get_or (set out i q) j 0 ≡ f j (task_at rows j) (get_or ps j 0)
+      go : (j : ℕ) → (i ≤ j) ⊎ (j < i) → j < i + 1 → get_or (set out i q) j 0 ≡ f j (task_at rows.tasks j) (get_or ps j 0)
       go j (inl l) k =
           let z : j ≡ i = omega arith in
           let a = v.eight in
-          let b = v.most in
+          let b = rows.few in
           rw z (get_or-set_same out i q 0 (omega arith) ∙ e)
       go j (inr l) k = get_or-set_other out i j q 0 (λ z. let y : ⊥ = omega arith in y) ∙ v.done j l
 
-  filled-end : (i : ℕ) (out : List ℕ) → Filled i out → n ≤ i → take n out ≡ each f 0 (row_tasks n rows) (take n ps)
+  filled-end : (i : ℕ) (out : List ℕ) → Filled i out → rows.count ≤ i → take rows.count out ≡ each f 0 (row_tasks rows) (take rows.count ps)
   filled-end i out v h =
       let a = v.few in
-      let m = v.most in
+      let m = rows.few in
       let e = v.eight in
       let l = v.long in
-      let s = row_tasks n rows in
-      let r = rows-length n rows in
-      let b = length-take-le n out (omega arith) in
-      let d : length (take n ps) ≡ length s = length-take-le n ps (omega arith) ∙ sym r in
-      ext_get_or 0 (take n out) (each f 0 s (take n ps)) (b ∙ sym (each-length f 0 s (take n ps) d ∙ r))
-      (λ j k. get_or-take n out j 0 (omega arith) ∙ v.done j (omega arith) ∙ sym (each_at f 0 s (take n ps) j d (omega arith) ∙ at j (omega arith)))
+      let s = row_tasks rows in
+      let r = rows-length rows in
+      let b = length-take-le rows.count out (omega arith) in
+      let d : length (take rows.count ps) ≡ length s = length-take-le rows.count ps (omega arith) ∙ sym r in
+      ext_get_or 0 (take rows.count out) (each f 0 s (take rows.count ps)) (b ∙ sym (each-length f 0 s (take rows.count ps) d ∙ r))
+      (λ j k. get_or-take rows.count out j 0 (omega arith) ∙ v.done j (omega arith) ∙ sym (each_at f 0 s (take rows.count ps) j d (omega arith) ∙ at j (omega arith)))
     where
-      at : (j : ℕ) → j < n → f (0 + j) (get_or (row_tasks n rows) j no_task) (get_or (take n ps) j 0) ≡ f j (task_at rows j) (get_or ps j 0)
-      at j k = rw (row_at n rows j k, get_or-take n ps j 0 k) (ap (λ i. f i (task_at rows j) (get_or ps j 0)) (omega arith))
+      at : (j : ℕ) → j < rows.count → f (0 + j) (get_or (row_tasks rows) j no_task) (get_or (take rows.count ps) j 0) ≡ f j (task_at rows.tasks j) (get_or ps j 0)
+      at j k = rw (row_at rows j k, get_or-take rows.count ps j 0 k) (ap (λ i. f i (task_at rows.tasks j) (get_or ps j 0)) (omega arith))
 
 -- ── a bit for each task ─────────────────────────────────────────────────────
 
@@ -110,16 +110,16 @@ lowered-all : (slot b : ℕ) (s : List model.Task) (ps : List ℕ) → each (bac
 unfolding halved
 lowered-all slot b s ps = sym (lowered-each slot b 0 s ps)
 
-module _ (slot b n : ℕ) (rows : List Timed) (ps : List ℕ) where
-  pub back_step : (i bits : ℕ) (out : List ℕ) → Filled (back slot b) n rows ps i out → bits ≡ halved b i → i < n → length rows ≡ 8
-      → (d : Timed) (q : ℕ) → q ≡ cond (starts slot (timed_task (get_or rows i d))) (span (timed_task (get_or rows i d))) (get_or ps i 0)
-      → Filled (back slot b) n rows ps (i + 1) (set out i (q - bits % 2))
-  back_step i bits out v e h eight d q f =
-      let m = v.most in
-      filled-step (back slot b) n rows ps i (q - bits % 2) out v h (back_at slot b i (task_at rows i) (get_or ps i 0) q (q - bits % 2) bits e (rw (row_is rows i d (omega arith)) at f) refl)
+module _ (slot b : ℕ) (rows : Rows) (ps : List ℕ) where
+  pub back_step : (i bits : ℕ) (out : List ℕ) → Filled (back slot b) rows ps i out → bits ≡ halved b i → (used : List Timed) → map timed_task used ≡ row_tasks rows → i < length used
+      → (τ : Timed) → τ ≡ get_or used i τ → (q : ℕ) → q ≡ cond (starts slot (timed_task τ)) (span (timed_task τ)) (get_or ps i 0)
+      → Filled (back slot b) rows ps (i + 1) (set out i (q - bits % 2))
+  back_step i bits out v e used are h τ is q f =
+      let m = used-many rows used are in
+      filled-step (back slot b) rows ps i (q - bits % 2) out v (omega arith) (back_at slot b i (task_at rows.tasks i) (get_or ps i 0) q (q - bits % 2) bits e (rw (used_is rows used are i τ h is) at f) refl)
 
-  pub back_end : (i : ℕ) (out : List ℕ) → Filled (back slot b) n rows ps i out → n ≤ i → take n out ≡ lowered b (each (unstarted slot) 0 (row_tasks n rows) (take n ps))
-  back_end i out v h = filled-end (back slot b) n rows ps i out v h ∙ lowered-all slot b (row_tasks n rows) (take n ps)
+  pub back_end : (i : ℕ) (out : List ℕ) → Filled (back slot b) rows ps i out → rows.count ≤ i → take rows.count out ≡ lowered b (each (unstarted slot) 0 (row_tasks rows) (take rows.count ps))
+  back_end i out v h = filled-end (back slot b) rows ps i out v h ∙ lowered-all slot b (row_tasks rows) (take rows.count ps)
 
 -- the progress after a slot, of one task
 unfoldable pub forth : ℕ → ℕ → ℕ → model.Task → ℕ → ℕ
@@ -160,18 +160,17 @@ pub kept-modest : (n i : ℕ) (ps out : List ℕ) → Kept i ps out → Modest n
 unfolding Modest
 kept-modest n i ps out v m h = rw (kept_at i ps out v) (m i h)
 
-module _ (slot b n : ℕ) (rows : List Timed) (ps : List ℕ) where
-  pub forth-step : (i bits : ℕ) (out : List ℕ) → Filled (forth slot b) n rows ps i out → Kept i ps out → bits ≡ halved b i → i < n → length rows ≡ 8
-      → (d : Timed) (since r : ℕ) → since ≡ suc (slot % (timed_task (get_or rows i d)).period) → r ≡ cond (eqb since (timed_task (get_or rows i d)).period) 0 (get_or out i 0 + bits % 2)
-      → Filled (forth slot b) n rows ps (i + 1) (set out i r)
-  forth-step i bits out v k e h eight d since r g w =
-      let m = v.most in
-      let a : i < length rows = omega arith in
-      filled-step (forth slot b) n rows ps i r out v h
-      (forth-at slot b i (task_at rows i) (get_or ps i 0) (get_or out i 0 + bits % 2) since r bits e (rw (kept_at i ps out k)) (rw (row_is rows i d a) at g) (rw (row_is rows i d a) at w))
+module _ (slot b : ℕ) (rows : Rows) (ps : List ℕ) where
+  pub forth-step : (i bits : ℕ) (out : List ℕ) → Filled (forth slot b) rows ps i out → Kept i ps out → bits ≡ halved b i → (used : List Timed) → map timed_task used ≡ row_tasks rows → i < length used
+      → (τ : Timed) → τ ≡ get_or used i τ → (since r : ℕ) → since ≡ suc (slot % (timed_task τ).period) → r ≡ cond (eqb since (timed_task τ).period) 0 (get_or out i 0 + bits % 2)
+      → Filled (forth slot b) rows ps (i + 1) (set out i r)
+  forth-step i bits out v k e used are h τ is since r g w =
+      let m = used-many rows used are in
+      filled-step (forth slot b) rows ps i r out v (omega arith)
+      (forth-at slot b i (task_at rows.tasks i) (get_or ps i 0) (get_or out i 0 + bits % 2) since r bits e (rw (kept_at i ps out k)) (rw (used_is rows used are i τ h is) at g) (rw (used_is rows used are i τ h is) at w))
 
-  pub forth-end : (i : ℕ) (out : List ℕ) → Filled (forth slot b) n rows ps i out → n ≤ i → take n out ≡ each (restarted (suc slot)) 0 (row_tasks n rows) (raised b (take n ps))
-  forth-end i out v h = filled-end (forth slot b) n rows ps i out v h ∙ raised_all slot b (row_tasks n rows) (take n ps)
+  pub forth-end : (i : ℕ) (out : List ℕ) → Filled (forth slot b) rows ps i out → rows.count ≤ i → take rows.count out ≡ each (restarted (suc slot)) 0 (row_tasks rows) (raised b (take rows.count ps))
+  forth-end i out v h = filled-end (forth slot b) rows ps i out v h ∙ raised_all slot b (row_tasks rows) (take rows.count ps)
 
 -- ── the ready task whose bit is set ─────────────────────────────────────────
 
@@ -194,48 +193,51 @@ rose-not b r n = rw (ne_eqb (b % 2) 1 n)
 
 pub ruleset rose_laws = (rose-ready, rose-other, rose-not)
 
-module _ (b n : ℕ) (rows : List Timed) (p : List ℕ) where
+module _ (b : ℕ) (rows : Rows) (p : List ℕ) where
   abbrev tasks : List model.Task
-  tasks = row_tasks n rows
+  tasks = row_tasks rows
 
   -- the tasks before place i did not rise from being ready
   pub record Looked (i bits : ℕ) : Type 0 where
     pub eight : length p ≡ 8
-    pub most : n ≤ 8
-    pub rest : chosen 0 b tasks (take n p) ≡ chosen i bits (drop i tasks) (drop i (take n p))
+    pub rest : chosen 0 b tasks (take rows.count p) ≡ chosen i bits (drop i tasks) (drop i (take rows.count p))
 
-  looked-next : (i bits : ℕ) → length p ≡ 8 → n ≤ 8 → i < n
-      → chosen i bits (drop i tasks) (drop i (take n p))
-      ≡ cond (eqb (bits % 2) 1 && is_ready (standing (task_at rows i) (get_or p i 0))) i (chosen (suc i) (bits / 2) (drop (suc i) tasks) (drop (suc i) (take n p)))
+  looked-next : (i bits : ℕ) → length p ≡ 8 → i < rows.count
+      → chosen i bits (drop i tasks) (drop i (take rows.count p))
+      ≡ cond (eqb (bits % 2) 1 && is_ready (standing (task_at rows.tasks i) (get_or p i 0))) i (chosen (suc i) (bits / 2) (drop (suc i) tasks) (drop (suc i) (take rows.count p)))
   unfolding chosen
-  looked-next i bits e m h =
-      let k = length-take-le n p (omega arith) in
-      let l = rows-length n rows in
-      rw (drop-cons tasks i no_task (omega arith), drop-cons (take n p) i 0 (omega arith), row_at n rows i h, get_or-take n p i 0 h)
+  looked-next i bits e h =
+      let m = rows.few in
+      let k = length-take-le rows.count p (omega arith) in
+      let l = rows-length rows in
+      rw (drop-cons tasks i no_task (omega arith), drop-cons (take rows.count p) i 0 (omega arith), row_at rows i h, get_or-take rows.count p i 0 h)
 
-  pub looked-start : n ≤ 8 → length p ≡ 8 → Looked 0 b
-  looked-start m e = record { eight = e; most = m; rest = refl }
+  pub looked-start : length p ≡ 8 → Looked 0 b
+  looked-start e = record { eight = e; rest = refl }
 
-  module _ (i bits : ℕ) (r : Bool) (v : Looked i bits) (h : i < n) (eight : length rows ≡ 8) (d : Timed)
-      (e : r ≡ eqb (bits % 2) 1 && is_ready (standing (timed_task (get_or rows i d)) (get_or p i 0))) where
-    rises : r ≡ eqb (bits % 2) 1 && is_ready (standing (task_at rows i) (get_or p i 0))
-    rises = let m = v.most in rw (row_is rows i d (omega arith)) at e
+  module _ (i bits : ℕ) (r : Bool) (v : Looked i bits) (used : List Timed) (are : map timed_task used ≡ row_tasks rows) (h : i < length used) (τ : Timed) (is : τ ≡ get_or used i τ)
+      (e : r ≡ eqb (bits % 2) 1 && is_ready (standing (timed_task τ) (get_or p i 0))) where
+    below : i < rows.count
+    below = let m = used-many rows used are in omega arith
+
+    rises : r ≡ eqb (bits % 2) 1 && is_ready (standing (task_at rows.tasks i) (get_or p i 0))
+    rises = rw (used_is rows used are i τ h is) at e
 
     pub looked-step : r ≡ false → Looked (i + 1) (bits / 2)
-    looked-step f = record { eight = v.eight; most = v.most; rest = v.rest ∙ looked-next i bits v.eight v.most h ∙ rw (← rises, f, add-one) }
+    looked-step f = record { eight = v.eight; rest = v.rest ∙ looked-next i bits v.eight below ∙ rw (← rises, f, add-one) }
 
-    pub looked-found : r ≡ true → i ≡ chosen 0 b tasks (take n p)
-    looked-found f = sym (v.rest ∙ looked-next i bits v.eight v.most h ∙ rw (← rises, f))
+    pub looked-found : r ≡ true → i ≡ chosen 0 b tasks (take rows.count p)
+    looked-found f = sym (v.rest ∙ looked-next i bits v.eight below ∙ rw (← rises, f))
 
-  pub looked-end : (i bits : ℕ) → Looked i bits → n ≤ i → 255 ≡ chosen 0 b tasks (take n p)
+  pub looked-end : (i bits : ℕ) → Looked i bits → rows.count ≤ i → 255 ≡ chosen 0 b tasks (take rows.count p)
   unfolding chosen idle
-  looked-end i bits v h = sym (v.rest ∙ rw (drop_of_length-le tasks {i = i} (omega (arith, rows-length n rows))))
+  looked-end i bits v h = sym (v.rest ∙ rw (drop_of_length-le tasks {i = i} (omega (arith, rows-length rows))))
 
 -- ── marks into choices ──────────────────────────────────────────────────────
 
-module _ (n : ℕ) (rows : List Timed) (h : ℕ) (given : List ℕ) where
+module _ (rows : Rows) (h : ℕ) (given : List ℕ) where
   abbrev held : List model.Task
-  held = row_tasks n rows
+  held = row_tasks rows
 
   abbrev all : List ℕ
   all = spelled held (start held) (take h given)
@@ -248,7 +250,7 @@ module _ (n : ℕ) (rows : List Timed) (h : ℕ) (given : List ℕ) where
     pub eight : length progress ≡ 8
     pub x : Position
     pub now : x.slot ≡ slot
-    pub is : take n progress ≡ x.progress
+    pub is : take rows.count progress ≡ x.progress
     pub within : (j : ℕ) → j < length held → get_or x.progress j 0 ≤ span (get_or held j no_task)
     pub choices : List ℕ
     pub many : length choices ≡ h - slot
@@ -257,20 +259,20 @@ module _ (n : ℕ) (rows : List Timed) (h : ℕ) (given : List ℕ) where
     pub rest : all ≡ take slot table ++ spelled held x (take (h - slot) (drop slot table))
     pub kept : drop h table ≡ drop h given
 
-  start_is : n ≤ 8 → take n (replicate 8 0) ≡ (start held).progress
+  start_is : take rows.count (replicate 8 0) ≡ (start held).progress
   unfolding start
-  start_is m = take-replicate n 8 0 m ∙ ap (λ k. replicate k 0) (sym (rows-length n rows))
+  start_is = take-replicate rows.count 8 0 rows.few ∙ ap (λ k. replicate k 0) (sym (rows-length rows))
 
-  pub spelling-start : Laid n rows → h ≤ length given → Listed held h given → Spelling 0 given (replicate 8 0)
+  pub spelling-start : h ≤ length given → Listed held h given → Spelling 0 given (replicate 8 0)
   unfolding start
-  spelling-start l f v = record {
+  spelling-start f v = record {
     few = omega arith;
     fits = f;
     long = refl;
     eight = refl;
     x = start held;
     now = refl;
-    is = start_is l.few;
+    is = start_is;
     within = start_fits held;
     choices = v.choices;
     many = rw sub-zero v.many;
@@ -280,23 +282,23 @@ module _ (n : ℕ) (rows : List Timed) (h : ℕ) (given : List ℕ) where
     kept = refl;
   }
 
-  pub spelling-modest : (slot : ℕ) (table progress : List ℕ) → Laid n rows → Spelling slot table progress → Modest n progress
+  pub spelling-modest : (slot : ℕ) (table progress : List ℕ) → Spelling slot table progress → Modest rows.count progress
   unfolding Modest
-  spelling-modest slot table progress l v j k =
-      let a = row_small rows j in
-      let b = rw (row_at n rows j k) at (v.within j (rw (rows-length n rows) k)) in
-      let e = sym (get_or-take n progress j 0 k) ∙ ap (λ ps. get_or ps j 0) v.is in
+  spelling-modest slot table progress v j k =
+      let a = row_small rows.tasks j in
+      let b = rw (row_at rows j k) at (v.within j (rw (rows-length rows) k)) in
+      let e = sym (get_or-take rows.count progress j 0 k) ∙ ap (λ ps. get_or ps j 0) v.is in
       omega arith
 
   -- the choice of the slot is the list's next one, and the progress after it is that of the next position
-  module _ (slot : ℕ) (table progress : List ℕ) (l : Laid n rows) (v : Spelling slot table progress) (s : slot < h) (k : ℕ)
-      (found : k ≡ chosen 0 (get_or table slot 0) held (take n progress)) (after : List ℕ) (eight' : length after ≡ 8)
-      (along : take n after ≡ each (restarted (suc slot)) 0 held (raised (get_or table slot 0) (take n progress))) where
+  module _ (slot : ℕ) (table progress : List ℕ) (v : Spelling slot table progress) (s : slot < h) (k : ℕ)
+      (found : k ≡ chosen 0 (get_or table slot 0) held (take rows.count progress)) (after : List ℕ) (eight' : length after ≡ 8)
+      (along : take rows.count after ≡ each (restarted (suc slot)) 0 held (raised (get_or table slot 0) (take rows.count progress))) where
     abbrev x : Position
     x = v.x
 
     long : length x.progress ≡ length held
-    long = sym (ap length v.is) ∙ length-take-le n progress (let a = v.eight in let b = l.few in omega arith) ∙ sym (rows-length n rows)
+    long = sym (ap length v.is) ∙ length-take-le rows.count progress (let a = v.eight in let b = rows.few in omega arith) ∙ sym (rows-length rows)
 
     front : take (h - slot) (drop slot table) ≡ get_or table slot 0 ∷ take (h - suc slot) (drop (suc slot) table)
     front =
@@ -308,7 +310,7 @@ module _ (n : ℕ) (rows : List Timed) (h : ℕ) (given : List ℕ) where
     unfolding next live_from spelled
     turned c cs m b t a =
         let ok = T_and (legal held x c) _ a in
-        let few8 : length held ≤ 8 = omega (arith, rows-length n rows, l.few) in
+        let few8 : length held ≤ 8 = omega (arith, rows-length rows, rows.few) in
         let g : chosen 0 (get_or table slot 0) held x.progress ≡ c = rw b (chosen_is held x.progress c long few8 (legal-allowed held x c ok.0)) in
         let kc : k ≡ c = found ∙ rw v.is g in
         let fits = v.fits in

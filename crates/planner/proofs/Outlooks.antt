@@ -23,7 +23,8 @@ use Rattle.tasks.specs.Views.{standing_of}
 use Rattle.tasks.proofs.OneTask.{undone-below}
 use Rattle.tasks.proofs.Slotwise.{starts-full}
 use Rattle.tasks.specs.declared.timed.Timed.{Timed}
-use Rattle.planner.specs.Rows.{task_at, row_tasks, Laid}
+use Rattle.planner.specs.declared.rows.Rows.{Rows}
+use Rattle.planner.specs.Rows.{task_at, row_tasks}
 use Rattle.planner.specs.Marks.{mark}
 use Rattle.tasks.specs.Slots.{onward, well_at, well_after}
 use Rattle.tasks.specs.Timed.{timed_task}
@@ -109,94 +110,93 @@ bit_put : (m : ℕ) (b : Bool) → m * 2 + bool_byte b ≡ cond b 1 0 + 2 * m
 bit_put m true = omega arith
 bit_put m false = omega arith
 
-module _ (n : ℕ) (rows : List Timed) (progress : List ℕ) (slot : ℕ) where
+module _ (rows : Rows) (progress : List ℕ) (slot : ℕ) where
   abbrev set-of : List Task
-  set-of = row_tasks n rows
+  set-of = row_tasks rows
 
   abbrev now_of : List ℕ
-  now_of = take n progress
+  now_of = take rows.count progress
 
   -- the tasks from place i on are looked at
   pub record Looked (i waits late first : ℕ) (stay : List ℕ) (go : List (Option ℕ)) : Type 0 where
-    pub few : i ≤ n
-    pub laid : Laid n rows
-    pub eights : length rows ≡ 8
+    pub few : i ≤ rows.count
+    pub eights : length rows.tasks ≡ 8
     pub eight : length progress ≡ 8
     pub long : length stay ≡ 8
     pub long' : length go ≡ 8
     pub small : waits ≤ 255
     pub rising : waits ≡ mark (drop i now_of) (drop i (ended set-of now_of idle))
-    pub counted : late + i ≤ n
+    pub counted : late + i ≤ rows.count
     pub byte : first ≤ 255
     pub claims : urgent_in late first ≡ claimed slot i (drop i set-of) (drop i now_of)
     pub kept : (j : ℕ) → j < i → get_or stay j 0 ≡ get_or progress j 0
-    pub staying : (j : ℕ) → i ≤ j → j < n → get_or stay j 0 ≡ onward slot (get_or set-of j no_task) (stayed (get_or set-of j no_task) (get_or now_of j 0))
-    pub going : (j : ℕ) → i ≤ j → j < n → get_or (map one_more go) j 0 ≡ gone slot (get_or set-of j no_task) (get_or now_of j 0)
+    pub staying : (j : ℕ) → i ≤ j → j < rows.count → get_or stay j 0 ≡ onward slot (get_or set-of j no_task) (stayed (get_or set-of j no_task) (get_or now_of j 0))
+    pub going : (j : ℕ) → i ≤ j → j < rows.count → get_or (map one_more go) j 0 ≡ gone slot (get_or set-of j no_task) (get_or now_of j 0)
 
-  pub looked-start : (go : List (Option ℕ)) → Laid n rows → length rows ≡ 8 → length progress ≡ 8 → length go ≡ 8 → Looked n 0 0 0 progress go
+  pub looked-start : (go : List (Option ℕ)) → length rows.tasks ≡ 8 → length progress ≡ 8 → length go ≡ 8 → Looked rows.count 0 0 0 progress go
   unfolding mark claimed urgent_in
-  looked-start go laid r e g =
-      let few = laid.few in
-      let l : length now_of ≡ n = length-take-le n progress (omega arith) in
-      let m = rows-length n rows in
+  looked-start go r e g =
+      let few = rows.few in
+      let l : length now_of ≡ rows.count = length-take-le rows.count progress (omega arith) in
+      let m = rows-length rows in
       record {
         few = omega arith;
-        laid = laid;
         eights = r;
         eight = e;
         long = e;
         long' = g;
         small = omega arith;
-        rising = rw (drop_of_length-le now_of {i = n} (omega arith));
+        rising = rw (drop_of_length-le now_of {i = rows.count} (omega arith));
         counted = omega arith;
         byte = omega arith;
-        claims = rw (drop_of_length-le set-of {i = n} (omega arith));
+        claims = rw (drop_of_length-le set-of {i = rows.count} (omega arith));
         kept = λ j h. refl;
         staying = λ j h k. let z : ⊥ = omega arith in absurd z;
         going = λ j h k. let z : ⊥ = omega arith in absurd z;
       }
 
-  module _ (k : ℕ) (h : k < n) (few : n ≤ 8) (eight : length progress ≡ 8) where
+  module _ (k : ℕ) (h : k < rows.count) (eight : length progress ≡ 8) where
     abbrev here : Task
-    here = task_at rows k
+    here = task_at rows.tasks k
 
     abbrev at-start : ℕ
     at-start = get_or progress k 0
 
-    all-now : length now_of ≡ n
-    all-now = length-take-le n progress (omega arith)
+    all-now : length now_of ≡ rows.count
+    all-now = let f = rows.few in length-take-le rows.count progress (omega arith)
 
     same : length now_of ≡ length set-of
-    same = all-now ∙ sym (rows-length n rows)
+    same = all-now ∙ sym (rows-length rows)
 
     inside : k < length set-of
-    inside = rw (rows-length n rows) h
+    inside = rw (rows-length rows) h
 
     now-at : get_or now_of k 0 ≡ at-start
-    now-at = get_or-take n progress k 0 h
+    now-at = get_or-take rows.count progress k 0 h
 
     stayed-at : get_or (ended set-of now_of idle) k 0 ≡ stayed here at-start
     unfolding passed idle stayed
     stayed-at =
+        let f = rows.few in
         let e : eqb 255 k ≡ false = ne_eqb 255 k (λ z. omega arith) in
-        ended_at set-of now_of idle k same inside ∙ rw (row_at n rows k h, now-at, e)
+        ended_at set-of now_of idle k same inside ∙ rw (row_at rows k h, now-at, e)
 
     mark-at : mark (drop k now_of) (drop k (ended set-of now_of idle))
         ≡ cond (eqb at-start (stayed here at-start)) 0 1 + 2 * mark (drop (suc k) now_of) (drop (suc k) (ended set-of now_of idle))
     unfolding mark
     mark-at =
         let a = all-now in
-        let b = ended-length set-of now_of idle same ∙ rows-length n rows in
+        let b = ended-length set-of now_of idle same ∙ rows-length rows in
         rw (drop-cons now_of k 0 (omega arith), drop-cons (ended set-of now_of idle) k 0 (omega arith), now-at, stayed-at)
 
     claimed-at : claimed slot k (drop k set-of) (drop k now_of)
         ≡ claim (claimed slot (suc k) (drop (suc k) set-of) (drop (suc k) now_of)) (well_after slot here (stayed here at-start)) k
     unfolding claimed
-    claimed-at = let a = all-now in rw (drop-cons set-of k no_task inside, drop-cons now_of k 0 (omega arith), row_at n rows k h, now-at)
+    claimed-at = let a = all-now in rw (drop-cons set-of k no_task inside, drop-cons now_of k 0 (omega arith), row_at rows k h, now-at)
 
   -- an entry of a list that is written downwards
-  written : (f : ℕ → ℕ) (l : List ℕ) (k v : ℕ) → k < length l → v ≡ f k → ((j : ℕ) → suc k ≤ j → j < n → get_or l j 0 ≡ f j)
-      → (j : ℕ) → k ≤ j → j < n → get_or (set l k v) j 0 ≡ f j
+  written : (f : ℕ → ℕ) (l : List ℕ) (k v : ℕ) → k < length l → v ≡ f k → ((j : ℕ) → suc k ≤ j → j < rows.count → get_or l j 0 ≡ f j)
+      → (j : ℕ) → k ≤ j → j < rows.count → get_or (set l k v) j 0 ≡ f j
   written f l k v h e rest j a b = go (le-or-lt (suc k) j)
     where
       go : (suc k ≤ j) ⊎ (j < suc k) → get_or (set l k v) j 0 ≡ f j
@@ -204,22 +204,21 @@ module _ (n : ℕ) (rows : List Timed) (progress : List ℕ) (slot : ℕ) where
       go (inr c) = let z : j ≡ k = omega arith in rw z (get_or-set_same l k v 0 h ∙ e)
 
   step : (k waits late first : ℕ) (stay : List ℕ) (go : List (Option ℕ)) (rises well : Bool) (st : ℕ) (g : Option ℕ) (w u f : ℕ) → Looked (suc k) waits late first stay go
-      → IsWay slot (task_at rows k) (get_or progress k 0) rises well st (one_more g) → w ≡ cond rises 1 0 + 2 * waits
-      → (u + k ≤ n) × (f ≤ 255) × (urgent_in u f ≡ claim (urgent_in late first) well k) → Looked k w u f (set stay k st) (set go k g)
+      → IsWay slot (task_at rows.tasks k) (get_or progress k 0) rises well st (one_more g) → w ≡ cond rises 1 0 + 2 * waits
+      → (u + k ≤ rows.count) × (f ≤ 255) × (urgent_in u f ≡ claim (urgent_in late first) well k) → Looked k w u f (set stay k st) (set go k g)
   step k waits late first stay go rises well st g w u f v way x y =
       let few = v.few in
       let long = v.long in
       let long' = v.long' in
-      let most = v.laid.few in
-      let h : k < n = omega arith in
-      let l = all-now k h most v.eight in
-      let q = now-at k h most v.eight in
-      let r = row_at n rows k h in
+      let most = rows.few in
+      let h : k < rows.count = omega arith in
+      let l = all-now k h v.eight in
+      let q = now-at k h v.eight in
+      let r = row_at rows k h in
       let m : w ≡ mark (drop k now_of) (drop k (ended set-of now_of idle)) =
-      x ∙ rw (way.rising, bit_is, v.rising) (sym (mark-at k h most v.eight)) in
+      x ∙ rw (way.rising, bit_is, v.rising) (sym (mark-at k h v.eight)) in
       record {
         few = omega arith;
-        laid = v.laid;
         eights = v.eights;
         eight = v.eight;
         long = length-set stay k st ∙ v.long;
@@ -228,26 +227,26 @@ module _ (n : ℕ) (rows : List Timed) (progress : List ℕ) (slot : ℕ) where
         rising = m;
         counted = y.0;
         byte = y.1;
-        claims = y.2 ∙ rw (way.ending, v.claims) (sym (claimed-at k h most v.eight));
+        claims = y.2 ∙ rw (way.ending, v.claims) (sym (claimed-at k h v.eight));
         kept = λ j a. get_or-set_other stay k j st 0 (λ z. omega arith) ∙ v.kept j (omega arith);
         staying = written (λ j. onward slot (get_or set-of j no_task) (stayed (get_or set-of j no_task) (get_or now_of j 0))) stay k st (omega arith) (rw (r, q) way.staying) v.staying;
         going = rw (map-set one_more go k g) (written (λ j. gone slot (get_or set-of j no_task) (get_or now_of j 0)) (map one_more go) k (one_more g) (omega (arith, length-map go one_more)) (rw (r, q) way.going) v.going);
       }
 
   module _ (i waits late first : ℕ) (stay : List ℕ) (go : List (Option ℕ)) (v : Looked i waits late first stay go) (h : 0 < i)
-      (r : Timed) (rises well : Bool) (st : ℕ) (g : Option ℕ) (way : IsWay slot (timed_task (get_or rows (i - 1) r)) (get_or stay (i - 1) 0) rises well st (one_more g)) where
-    stepped : (u f : ℕ) → (u + (i - 1) ≤ n) × (f ≤ 255) × (urgent_in u f ≡ claim (urgent_in late first) well (i - 1))
+      (r : Timed) (rises well : Bool) (st : ℕ) (g : Option ℕ) (way : IsWay slot (timed_task (get_or rows.tasks (i - 1) r)) (get_or stay (i - 1) 0) rises well st (one_more g)) where
+    stepped : (u f : ℕ) → (u + (i - 1) ≤ rows.count) × (f ≤ 255) × (urgent_in u f ≡ claim (urgent_in late first) well (i - 1))
         → Looked (i - 1) (waits * 2 + bool_byte rises) u f (set stay (i - 1) st) (set go (i - 1) g)
     stepped u f y =
         let z : i ≡ suc (i - 1) = omega arith in
         let few = v.few in
-        let m = v.laid.few in
+        let m = rows.few in
         let l = v.eights in
-        step (i - 1) waits late first stay go rises well st g (waits * 2 + bool_byte rises) u f (rw z at v) (rw (row_is rows (i - 1) r (omega arith), v.kept (i - 1) (omega arith)) at way) (bit_put waits rises) y
+        step (i - 1) waits late first stay go rises well st g (waits * 2 + bool_byte rises) u f (rw z at v) (rw (row_is rows.tasks (i - 1) r (omega arith), v.kept (i - 1) (omega arith)) at way) (bit_put waits rises) y
 
     pub looked-late : not well ≡ true → Looked (i - 1) (waits * 2 + bool_byte rises) (late + 1) (i - 1) (set stay (i - 1) st) (set go (i - 1) g)
     looked-late e =
-        let few = v.few in let m = v.laid.few in let k = v.counted in
+        let few = v.few in let m = rows.few in let k = v.counted in
         stepped (late + 1) (i - 1) (omega arith, omega arith, rw (not-true well e, add-one late) (claim-late late first (i - 1) v.byte))
 
     pub looked-well : not well ≡ false → Looked (i - 1) (waits * 2 + bool_byte rises) late first (set stay (i - 1) st) (set go (i - 1) g)
@@ -258,7 +257,7 @@ module _ (n : ℕ) (rows : List Timed) (progress : List ℕ) (slot : ℕ) where
       → Ahead set-of slot now_of waits u stay (map one_more go)
   looked-end i waits late first stay go u v h e =
       let z : i ≡ 0 = omega arith in
-      let m = rows-length n rows in
+      let m = rows-length rows in
       record {
         rising = v.rising ∙ rw z;
         claims = e ∙ v.claims ∙ rw z;

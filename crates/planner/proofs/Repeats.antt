@@ -16,13 +16,13 @@ use Rattle.rules.specs.Positions.{idle}
 use Rattle.rules.proofs.Laws.{true-T}
 use Rattle.rules.proofs.Lists.{clash-bool}
 use Rattle.rules.proofs.Plan.Ends.{left}
-use Rattle.tasks.specs.declared.timed.Timed.{Timed}
 use Rattle.planner.specs.declared.Word.{Word}
 use Rattle.planner.specs.declared.Word.TheVariants.{Schedule, Infeasible, OutOfRoom}
 use Rattle.planner.specs.declared.Answer.{Answer}
 use Rattle.planner.specs.declared.search.Choice as choices
 use Rattle.planner.specs.declared.search.Choice.TheVariants.{Task}
 use Rattle.planner.specs.declared.search.Search.{Search}
+use Rattle.planner.specs.declared.rows.Rows.{Rows}
 use Rattle.planner.specs.Rows.{row_tasks}
 use Rattle.planner.specs.Machine as machine
 use Rattle.planner.specs.Machine.{Machine, is_going, giving, leads_on, pushed, passed_over, step_of, Tries, adds, passes, spent, Took, once, tries, Reaches, ends, steps, opened}
@@ -90,44 +90,43 @@ module _ (s : List model.Task) (K : ℕ) (table area : List ℕ) (S : Setting s 
 
 -- ── the loop ────────────────────────────────────────────────────────────────
 
-module _ (n : ℕ) (rows : List Timed) (h K : ℕ) (t₀ a₀ : List ℕ) where
+module _ (rows : Rows) (h K : ℕ) (t₀ a₀ : List ℕ) where
   abbrev s : List model.Task
-  s = row_tasks n rows
+  s = row_tasks rows
 
   -- what is reached from the search as it stands is reached from its start
   pub record Underway (t a : List ℕ) (at : Search) : Type 0 where
-    pub opening : Opening n rows h K t₀ a₀
+    pub opening : Opening rows h K t₀ a₀
     pub table : length t ≡ length t₀
     pub area : length a ≡ length a₀
-    pub good : Searching s K t₀ a₀ (machine_of n at t a)
-    pub back : (e : machine.Status) (o : Machine) → Reaches s K (machine_of n at t a) e o → Reaches s K (opened s t₀ a₀) e o
+    pub good : Searching s K t₀ a₀ (machine_of rows.count at t a)
+    pub back : (e : machine.Status) (o : Machine) → Reaches s K (machine_of rows.count at t a) e o → Reaches s K (opened s t₀ a₀) e o
 
-  setting : Opening n rows h K t₀ a₀ → Setting s K t₀ a₀
+  setting : Opening rows h K t₀ a₀ → Setting s K t₀ a₀
   setting O =
-      let l = rows-length n rows in let f = O.laid.few in let p = O.period in let w = O.long in let x = O.some in
+      let l = rows-length rows in let f = rows.few in let p = O.period in let w = O.long in let x = O.some in
       record { fit = O.fit; some-task = omega arith; few = omega arith; begun = true-T _ O.begun; wide = omega arith; room_is = O.room_is }
 
-  begun-is : n ≤ 8 → machine_of n (record { slot = 0; progress = replicate 8 0; choice = Some (Task 0); recorded = 0 }) t₀ a₀ ≡ opened s t₀ a₀
+  begun-is : machine_of rows.count (record { slot = 0; progress = replicate 8 0; choice = Some (Task 0); recorded = 0 }) t₀ a₀ ≡ opened s t₀ a₀
   unfolding machine_of opened
-  begun-is f = ap {B = Machine} (λ p. record { slot = 0; progress = p; choice = 0; recorded = 0; table = t₀; area = a₀ }) (take-replicate n 8 0 f ∙ rw (rows-length n rows))
+  begun-is = ap {B = Machine} (λ p. record { slot = 0; progress = p; choice = 0; recorded = 0; table = t₀; area = a₀ }) (take-replicate rows.count 8 0 rows.few ∙ rw (rows-length rows))
 
-  pub underway-start : Opening n rows h K t₀ a₀ → Underway t₀ a₀ (record { slot = 0; progress = replicate 8 0; choice = Some (Task 0); recorded = 0 })
+  pub underway-start : Opening rows h K t₀ a₀ → Underway t₀ a₀ (record { slot = 0; progress = replicate 8 0; choice = Some (Task 0); recorded = 0 })
   underway-start O =
-      let b = begun-is O.laid.few in
+      let b = begun-is in
       record { opening = O; table = refl; area = refl; good = rw b (opened-searching s K t₀ a₀ (setting O)); back = λ e o r. rw b at r }
 
   module _ (t a : List ℕ) (at : Search) (U : Underway t a at) where
-    pub step_fits : Fits n rows h K at t a
+    pub step_fits : Fits rows h K at t a
     unfolding machine_of Choice idle
     step_fits =
         let O = U.opening in
         let p = O.period in
         let w = O.long in
         let z = U.table in
-        let l = rows-length n rows in
+        let l = rows-length rows in
         let b = U.good.below in
         record {
-          laid = O.laid;
           period = p;
           few = O.few;
           slots = omega arith;
@@ -137,22 +136,22 @@ module _ (n : ℕ) (rows : List Timed) (h K : ℕ) (t₀ a₀ : List ℕ) where
           holds = rw (U.area, O.room_is) (rw l at (room-holds s a₀));
         }
       where
-        tried : (c : choices.Choice) → (number_of c < n) ⊎ ((number_of c ≡ 255) ⊎ (number_of c ≡ 256)) → (number_of c < n) ⊎ (number_of c ≡ 255)
+        tried : (c : choices.Choice) → (number_of c < rows.count) ⊎ ((number_of c ≡ 255) ⊎ (number_of c ≡ 256)) → (number_of c < rows.count) ⊎ (number_of c ≡ 255)
         tried c (inl h) = inl h
         tried c (inr (inl e)) = inr e
         tried c (inr (inr e)) = let k = number-few c in let z : ⊥ = omega arith in absurd z
 
     module _ (t' a' : List ℕ) where
-      went : (on : Search) → Stepping s K (machine_of n at t a) n on None t' a' → Took s K (machine_of n at t a) machine.going (machine_of n on t' a')
+      went : (on : Search) → Stepping s K (machine_of rows.count at t a) rows.count on None t' a' → Took s K (machine_of rows.count at t a) machine.going (machine_of rows.count on t' a')
       unfolding Gives giving
       went on did = rw did.given at did.took
 
-      pub underway-step : (on : Search) → Stepping s K (machine_of n at t a) n on None t' a' → Underway t' a' on
+      pub underway-step : (on : Search) → Stepping s K (machine_of rows.count at t a) rows.count on None t' a' → Underway t' a' on
       unfolding machine_of
       underway-step on did =
           let S = setting U.opening in
-          let m = machine_of n on t' a' in
-          let k = (going_on s K t₀ a₀ S (machine_of n at t a) m (went on did) U.good).0 in
+          let m = machine_of rows.count on t' a' in
+          let k = (going_on s K t₀ a₀ S (machine_of rows.count at t a) m (went on did) U.good).0 in
           record {
             opening = U.opening;
             table = k.good.size;
@@ -161,13 +160,13 @@ module _ (n : ℕ) (rows : List Timed) (h K : ℕ) (t₀ a₀ : List ℕ) where
             back = λ w o r. U.back w o (k.back w o r);
           }
 
-      pub step_less : (on : Search) → Stepping s K (machine_of n at t a) n on None t' a'
+      pub step_less : (on : Search) → Stepping s K (machine_of rows.count at t a) rows.count on None t' a'
           → left K h on.recorded on.slot (number_in on.choice) < left K h at.recorded at.slot (number_in at.choice)
       unfolding machine_of
-      step_less on did = rw U.opening.period (going_on s K t₀ a₀ (setting U.opening) (machine_of n at t a) (machine_of n on t' a') (went on did) U.good).1
+      step_less on did = rw U.opening.period (going_on s K t₀ a₀ (setting U.opening) (machine_of rows.count at t a) (machine_of rows.count on t' a') (went on did) U.good).1
 
       -- a step that does not go on ends the run
-      pub stops : (on : Search) (w : Answer) → Stepping s K (machine_of n at t a) n on (Some w) t' a' → Ran s K (opened s t₀ a₀) (end_of w.word) w.dead t' a'
+      pub stops : (on : Search) (w : Answer) → Stepping s K (machine_of rows.count at t a) rows.count on (Some w) t' a' → Ran s K (opened s t₀ a₀) (end_of w.word) w.dead t' a'
       unfolding Gives is_going
       stops on w did =
           let g : Ends w t' a' did.reached = did.given in

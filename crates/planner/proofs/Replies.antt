@@ -2,7 +2,7 @@
 use mathlib.Core.Path.{◌≡◌, refl, sym, ap, ◌∙◌}
 use mathlib.Core.Logic.{◌⊎◌, inl, inr}
 use mathlib.Core.Bool.{Bool, true, false, not}
-use mathlib.Core.List.{List, ◌++◌, map}
+use mathlib.Core.List.{List, ◌++◌}
 use Prim.Native.Nat.{ℕ, zero, suc, ◌+◌, ◌≤◌, ◌<◌, ◌/◌}
 use native.Mathlib.Numerals.{add-one}
 use native.Mathlib.Omega.{arith}
@@ -14,17 +14,15 @@ use Rattle.rules.specs.Records.{SetRecord, or_else, set_in, record_refusal}
 use Rattle.rules.specs.Planner.{room, plan_refusal, PlanReply, refuses}
 use Rattle.rules.specs.Planner as model
 use Rattle.rules.proofs.Set.Widths.{hyper-small}
-use Rattle.tasks.specs.declared.Task as code
 use Rattle.tasks.specs.declared.TaskSet.{TaskSet}
-use Rattle.std.proofs.lemmas.List.{length-map}
-use Rattle.tasks.specs.Views.{task_of, record_of, set_of, progress_of, position_of}
+use Rattle.tasks.specs.Views.{record_of, set_of, progress_of, position_of}
 use Rattle.tasks.proofs.Views.{arrays}
 use Rattle.tasks.proofs.Positions.{set-fits}
-use Rattle.tasks.specs.declared.timed.Timed.{Timed}
 use Rattle.planner.specs.declared.Word.{Word}
 use Rattle.planner.specs.declared.Word.TheVariants.{Schedule, Infeasible, OutOfRoom}
 use Rattle.planner.specs.declared.Answer.{Answer}
-use Rattle.planner.specs.Rows.{row_tasks, Laid}
+use Rattle.planner.specs.declared.rows.Rows.{Rows}
+use Rattle.planner.specs.Rows.{row_tasks}
 use Rattle.planner.specs.Marks.{spelled, Listed}
 use Rattle.planner.specs.Machine.{Reaches, opened}
 use Rattle.tasks.specs.declared.refusal.Refusal.{Refusal}
@@ -32,20 +30,12 @@ use Rattle.tasks.specs.declared.refusal.Refusal.TheVariants.{ListTooLong, Malfor
 use Rattle.tasks.specs.Refusals.{number_of}
 use Rattle.std.specs.Prelude.{Result, Ok, Err, IsErrAnd}
 use Rattle.planner.specs.Views.{word_of, answer_of, Opening, end_of, Ran}
-use Rattle.planner.proofs.Places.{take-replicate}
+use Rattle.planner.proofs.Places.{rows-length, take-replicate}
 use Rattle.planner.proofs.Meets.{reaches-listed, reaches-size, plan-setting, plan-found, plan-failed, plan-full, plan-dead}
 
 start-position : (s : TaskSet) → start (set_of s) ≡ position_of s 0 (replicate 8 0)
 unfolding start position_of progress_of
 start-position s = ap {B = Position} (λ l. record { slot = 0; progress = l }) (sym (take-replicate (length (set_of s)) 8 0 (set-fits s).1))
-
--- the tasks in use are as many as the set's
-pub used-many : (s : TaskSet) (u : List code.Task) → map task_of u ≡ set_of s → length u ≡ length (set_of s)
-used-many s u e = sym (length-map u task_of) ∙ ap length e
-
--- the number of tasks and one more
-pub few-more : (s : TaskSet) (n : ℕ) → n ≡ length (set_of s) → n ≤ 8
-few-more s n e = let f = (set-fits s).1 in omega arith
 
 refused-by : (r : SetRecord) (t a : List ℕ) (x : ℕ) → 0 < x → plan_refusal r t ≡ x → PlanReply r t a (model.refused x) t a
 refused-by r t a zero k e = let z : ⊥ = omega arith in absurd z
@@ -99,26 +89,20 @@ module _ (s : TaskSet) (t a : List ℕ) where
         unfolding answer_of word_of set_of
         never-begun n t' e = plan-dead (record_of s) (arrays s) t a no-refusal (at-start ∙ not-true b n) t' (rw (← period-is) e)
 
-        module _ (go : not b ≡ false) (n : ℕ) (few : n ≡ length (set_of s)) (rows : List Timed) (are : row_tasks (length (set_of s)) rows ≡ set_of s) where
+        module _ (go : not b ≡ false) (rows : Rows) (are : row_tasks rows ≡ set_of s) where
           begun : live_position (set_of s) (start (set_of s)) ≡ true
           begun = at-start ∙ not-false b go
 
-          tasks-are : row_tasks n rows ≡ set_of s
-          tasks-are = rw few are
-
-          laid : Laid n rows
-          laid = let f = set-fits s in record { few = omega arith }
-
-          pub opens : Opening n rows h (length a / (n + 1)) t a
+          pub opens : Opening rows h (length a / (rows.count + 1)) t a
           unfolding room set_of
           opens =
               let S = plan-setting (record_of s) (arrays s) t a no-refusal begun in
               let x = S.some-task in
               let l = hyper-small (record_of s) admitted in
               let p = period-is in
-              let e = tasks-are in
+              let e = are in
+              let few : rows.count ≡ length (set_of s) = sym (rows-length rows) ∙ ap length e in
               record {
-                laid = laid;
                 some = omega arith;
                 fit = rw e S.fit;
                 period = rw e p;
@@ -128,24 +112,24 @@ module _ (s : TaskSet) (t a : List ℕ) where
                 room_is = rw (e, few, add-one);
               }
 
-          module _ (w : Answer) (t₁ a₁ : List ℕ) (R : Ran (row_tasks n rows) (length a / (n + 1)) (opened (row_tasks n rows) t a) (end_of w.word) w.dead t₁ a₁) where
+          module _ (w : Answer) (t₁ a₁ : List ℕ) (R : Ran (row_tasks rows) (length a / (rows.count + 1)) (opened (row_tasks rows) t a) (end_of w.word) w.dead t₁ a₁) where
             reached : (v : Word) → w.word ≡ v → Reaches (set_of s) (room (set_of s) a) (opened (set_of s) t a) (end_of v) R.last
-            reached v e = rw (← e, ← tasks-are, ← opens.room_is) R.reaches
+            reached v e = rw (← e, ← are, ← opens.room_is) R.reaches
 
-            pub may-spell : w.word ≡ Schedule → Laid n rows × ((h ≤ length t₁) × Listed (row_tasks n rows) h t₁)
+            pub may-spell : w.word ≡ Schedule → (h ≤ length t₁) × Listed (row_tasks rows) h t₁
             unfolding end_of set_of
             may-spell e =
                 let S = plan-setting (record_of s) (arrays s) t a no-refusal begun in
                 let r = reached Schedule e in
                 let z = reaches-size (set_of s) (room (set_of s) a) t a S _ _ r in
                 let q = R.table_is in
-                (laid, (rw (← q, z) wide, rw (tasks-are, period-is, ← q) (reaches-listed (set_of s) (room (set_of s) a) t a S R.last r)))
+                (rw (← q, z) wide, rw (are, period-is, ← q) (reaches-listed (set_of s) (room (set_of s) a) t a S R.last r))
 
             module _ (t' : List ℕ) where
-              pub first_found : w.word ≡ Schedule → t' ≡ spelled (row_tasks n rows) (start (row_tasks n rows)) (take h t₁) ++ drop h t₁ → PlanReply (record_of s) t a (answer_of (Ok w)) t' a₁
+              pub first_found : w.word ≡ Schedule → t' ≡ spelled (row_tasks rows) (start (row_tasks rows)) (take h t₁) ++ drop h t₁ → PlanReply (record_of s) t a (answer_of (Ok w)) t' a₁
               unfolding answer_of word_of end_of set_of
               first_found e q =
-                  rw (e, ← R.counted, ← R.area_is) (plan-found (record_of s) (arrays s) t a no-refusal begun R.last t' (reached Schedule e) (rw (R.table_is, ← period-is) (rw tasks-are at q)))
+                  rw (e, ← R.counted, ← R.area_is) (plan-found (record_of s) (arrays s) t a no-refusal begun R.last t' (reached Schedule e) (rw (R.table_is, ← period-is) (rw are at q)))
 
               none-exists : w.word ≡ Infeasible → t' ≡ replicate h 255 ++ drop h t₁ → PlanReply (record_of s) t a (answer_of (Ok w)) t' a₁
               unfolding answer_of word_of end_of set_of

@@ -12,12 +12,12 @@ use Rattle.rules.specs.Tasks as model
 use Rattle.rules.specs.Hyper.{hyper}
 use Rattle.rules.specs.Positions.{idle}
 use Rattle.std.specs.Prelude.{Option, Some, None, min}
-use Rattle.tasks.specs.declared.timed.Timed.{Timed}
 use Rattle.planner.specs.declared.Answer.{Answer}
 use Rattle.planner.specs.declared.Word.TheVariants.{Schedule, OutOfRoom}
 use Rattle.planner.specs.declared.search.Choice.{Choice}
 use Rattle.planner.specs.declared.search.Choice.TheVariants.{Task, Idle}
 use Rattle.planner.specs.declared.search.Search.{Search}
+use Rattle.planner.specs.declared.rows.Rows.{Rows}
 use Rattle.planner.specs.Rows.{row_tasks}
 use Rattle.planner.specs.Machine as machine
 use Rattle.planner.specs.Machine.{Machine, following, giving, step_of, Tries, Took, once, tries}
@@ -55,26 +55,26 @@ pub number-few : (c : Choice) → number_of c ≤ 255
 number-few (Task c) = omega arith
 number-few Idle = omega arith
 
-module _ (n : ℕ) (rows : List Timed) (h room : ℕ) (at : Search) (t a : List ℕ) (fits : Fits n rows h room at t a) where
+module _ (rows : Rows) (h room : ℕ) (at : Search) (t a : List ℕ) (fits : Fits rows h room at t a) where
   abbrev s : List model.Task
-  s = row_tasks n rows
+  s = row_tasks rows
 
-  pub may-try : (choice : Choice) → (at.slot ≡ h → ⊥) → at.choice ≡ Some choice → Trying n rows at choice t a
+  pub may-try : (choice : Choice) → (at.slot ≡ h → ⊥) → at.choice ≡ Some choice → Trying rows at choice t a
   may-try choice m e =
       let u = lt_of at.slot h fits.slots m in let f = fits.few in let l = fits.long in let r = fits.records in let o = fits.holds in
-      record { laid = fits.laid; slots = omega arith; few = omega arith; tries = e; choices = fits.choices choice e; records = omega (arith, mul-le-mul_right (suc n) r) }
+      record { slots = omega arith; few = omega arith; tries = e; choices = fits.choices choice e; records = omega (arith, mul-le-mul_right (suc rows.count) r) }
 
-  pub may-record : (at.recorded ≡ room → ⊥) → Recording n rows at t a
+  pub may-record : (at.recorded ≡ room → ⊥) → Recording rows at t a
   may-record m =
       let k = fits.records in
       let u : suc at.recorded ≤ room = lt_of at.recorded room k m in let b = fits.slots in let l = fits.long in let o = fits.holds in
-      record { laid = fits.laid; slots = omega arith; more = omega (arith, mul-le-mul_right (suc n) u) }
+      record { slots = omega arith; more = omega (arith, mul-le-mul_right (suc rows.count) u) }
 
-  pub list-whole : at.slot ≡ h → Stepping s room (machine_of n at t a) n at (Some (record { word = Schedule; dead = at.recorded })) t a
+  pub list-whole : at.slot ≡ h → Stepping s room (machine_of rows.count at t a) rows.count at (Some (record { word = Schedule; dead = at.recorded })) t a
   unfolding step_of machine_of Gives end_of giving
   list-whole e = record {
-    reached = giving machine.found (machine_of n at t a);
-    took = once {m = machine_of n at t a} {n = machine_of n at t a} {t = machine.found} (rw (eq-eqb at.slot (hyper s) (e ∙ fits.period)));
+    reached = giving machine.found (machine_of rows.count at t a);
+    took = once {m = machine_of rows.count at t a} {n = machine_of rows.count at t a} {t = machine.found} (rw (eq-eqb at.slot (hyper s) (e ∙ fits.period)));
     given = record { word_is = refl; counted = refl; table_is = refl; area_is = refl };
   }
 
@@ -82,30 +82,30 @@ module _ (n : ℕ) (rows : List Timed) (h room : ℕ) (at : Search) (t a : List 
     short : eqb at.slot (hyper s) ≡ false
     short = ne_eqb at.slot (hyper s) (λ e. below (e ∙ sym fits.period))
 
-    pub tried : (q : Search) (t' : List ℕ) (choice : Choice) → at.choice ≡ Some choice → Tries s (machine_of n at t a) (machine_of n q t' a)
-        → Stepping s room (machine_of n at t a) n q None t' a
+    pub tried : (q : Search) (t' : List ℕ) (choice : Choice) → at.choice ≡ Some choice → Tries s (machine_of rows.count at t a) (machine_of rows.count q t' a)
+        → Stepping s room (machine_of rows.count at t a) rows.count q None t' a
     unfolding machine_of Gives idle giving
     tried q t' choice c e = record {
-      reached = giving machine.going (machine_of n q t' a);
+      reached = giving machine.going (machine_of rows.count q t' a);
       took = tries short (rw c (number-few choice)) e;
       given = refl;
     }
 
     module _ (none : at.choice ≡ None) where
-      pub room-full : at.recorded ≡ room → Stepping s room (machine_of n at t a) n at (Some (record { word = OutOfRoom; dead = at.recorded })) t a
+      pub room-full : at.recorded ≡ room → Stepping s room (machine_of rows.count at t a) rows.count at (Some (record { word = OutOfRoom; dead = at.recorded })) t a
       unfolding step_of machine_of Gives end_of idle giving
       room-full e = let w = short in record {
-        reached = giving machine.no_room (machine_of n at t a);
-        took = once {m = machine_of n at t a} {n = machine_of n at t a} {t = machine.no_room} (rw (w, none, eq-eqb at.recorded room e));
+        reached = giving machine.no_room (machine_of rows.count at t a);
+        took = once {m = machine_of rows.count at t a} {n = machine_of rows.count at t a} {t = machine.no_room} (rw (w, none, eq-eqb at.recorded room e));
         given = record { word_is = refl; counted = refl; table_is = refl; area_is = refl };
       }
 
-      pub shuts : (q : Search) (r : Option Answer) (t' a' : List ℕ) → (at.recorded ≡ room → ⊥) → Gives n q r t' a' (shut s (machine_of n at t a))
-          → Stepping s room (machine_of n at t a) n q r t' a'
+      pub shuts : (q : Search) (r : Option Answer) (t' a' : List ℕ) → (at.recorded ≡ room → ⊥) → Gives rows.count q r t' a' (shut s (machine_of rows.count at t a))
+          → Stepping s room (machine_of rows.count at t a) rows.count q r t' a'
       unfolding step_of machine_of shut idle giving
       shuts q r t' a' m e = let w = short in record {
-        reached = shut s (machine_of n at t a);
-        took = once {m = machine_of n at t a} (rw (w, none, ne_eqb at.recorded room m));
+        reached = shut s (machine_of rows.count at t a);
+        took = once {m = machine_of rows.count at t a} (rw (w, none, ne_eqb at.recorded room m));
         given = e;
       }
 

@@ -15,10 +15,10 @@ use Rattle.rules.specs.Tasks.{no_task}
 use Rattle.rules.specs.Positions.{idle, ended, next, legal}
 use Rattle.rules.proofs.Lists.{and_parts}
 use Rattle.std.specs.Prelude.{Option, Some, None}
-use Rattle.tasks.specs.declared.timed.Timed.{Timed}
 use Rattle.planner.specs.declared.search.Choice.{Choice}
 use Rattle.planner.specs.declared.search.Choice.TheVariants.{Task}
 use Rattle.planner.specs.declared.search.Search.{Search}
+use Rattle.planner.specs.declared.rows.Rows.{Rows}
 use Rattle.planner.specs.Rows.{row_tasks}
 use Rattle.planner.specs.Marks.{mark}
 use Rattle.planner.specs.Area.{among}
@@ -132,68 +132,68 @@ module _ (s : List model.Task) (n : ℕ) (count : length s ≡ n) (few : length 
 
 -- ── in the code's terms ─────────────────────────────────────────────────────
 
-module _ (n : ℕ) (rows : List Timed) (at : Search) (choice : Choice) (table area : List ℕ) (R : Trying n rows at choice table area) (waits urgent : ℕ) (stay going : List ℕ)
-    (A : Ahead (row_tasks n rows) at.slot (take n at.progress) waits urgent stay going) (r : Option ℕ)
-    (F : First (leads_task n urgent (at.slot + 1) at.recorded going stay area) n (number_of choice) r) (whole : 8 ≡ length at.progress) (eight : 8 ≡ length stay)
+module _ (rows : Rows) (at : Search) (choice : Choice) (table area : List ℕ) (R : Trying rows at choice table area) (waits urgent : ℕ) (stay going : List ℕ)
+    (A : Ahead (row_tasks rows) at.slot (take rows.count at.progress) waits urgent stay going) (r : Option ℕ)
+    (F : First (leads_task rows.count urgent (at.slot + 1) at.recorded going stay area) rows.count (number_of choice) r) (whole : 8 ≡ length at.progress) (eight : 8 ≡ length stay)
     (on : List ℕ) (led : on ≡ led_to r going stay) where
   abbrev start : Machine
-  start = record { slot = at.slot; progress = take n at.progress; choice = number_of choice; recorded = at.recorded; table = table; area = area }
+  start = record { slot = at.slot; progress = take rows.count at.progress; choice = number_of choice; recorded = at.recorded; table = table; area = area }
 
-  count : length (row_tasks n rows) ≡ n
-  count = rows-length n rows
+  count : length (row_tasks rows) ≡ rows.count
+  count = rows-length rows
 
-  few : length (row_tasks n rows) ≤ 8
-  few = rw (rows-length n rows) R.laid.few
+  few : length (row_tasks rows) ≤ 8
+  few = rw (rows-length rows) rows.few
 
-  long : length (take n at.progress) ≡ length (row_tasks n rows)
-  long = let f = R.laid.few in length-take-le n at.progress (omega arith) ∙ sym (rows-length n rows)
+  long : length (take rows.count at.progress) ≡ length (row_tasks rows)
+  long = let f = rows.few in length-take-le rows.count at.progress (omega arith) ∙ sym (rows-length rows)
 
-  first-is : (k : Option ℕ) → r ≡ k → First (leads_task n urgent (suc at.slot) at.recorded going stay area) n (number_of choice) k
+  first-is : (k : Option ℕ) → r ≡ k → First (leads_task rows.count urgent (suc at.slot) at.recorded going stay area) rows.count (number_of choice) k
   first-is k e = rw (e, add-one at.slot) at F
 
   module _ (c : ℕ) (some : r ≡ Some c) where
     pub task-few : c < 8
     task-few = go (first-is (Some c) some)
       where
-        go : First (leads_task n urgent (suc at.slot) at.recorded going stay area) n (number_of choice) (Some c) → c < 8
-        go (hit a b e f) = let k = R.laid.few in omega arith
+        go : First (leads_task rows.count urgent (suc at.slot) at.recorded going stay area) rows.count (number_of choice) (Some c) → c < 8
+        go (hit a b e f) = let k = rows.few in omega arith
 
     pub mark-fits : (b : ℕ) → b ≡ 2 ^ c → waits + b < 256
     unfolding leads_task
     mark-fits b q = go (first-is (Some c) some)
       where
-        go : First (leads_task n urgent (suc at.slot) at.recorded going stay area) n (number_of choice) (Some c) → waits + b < 256
+        go : First (leads_task rows.count urgent (suc at.slot) at.recorded going stay area) rows.count (number_of choice) (Some c) → waits + b < 256
         go (hit a j e f) =
-            let i : c < length (row_tasks n rows) = rw (rows-length n rows) j in
+            let i : c < length (row_tasks rows) = rw (rows-length rows) j in
             let l = (and_parts (leads_by urgent (get_or going c 0) c) _ e).0 in
-            rw (q, ← mark-is (row_tasks n rows) n count few start long waits urgent stay going (sym eight) A c i l)
-            (mark-byte (take n at.progress) _ (omega (arith, few, long)))
+            rw (q, ← mark-is (row_tasks rows) rows.count count few start long waits urgent stay going (sym eight) A c i l)
+            (mark-byte (take rows.count at.progress) _ (omega (arith, few, long)))
 
     pub adds-task : (b mark : ℕ) → b ≡ 2 ^ c → mark ≡ waits + b
-        → Tries (row_tasks n rows) (machine_of n at table area) (machine_of n (record { slot = at.slot + 1; progress = on; choice = Some (Task 0); recorded = at.recorded }) (set table at.slot mark) area)
+        → Tries (row_tasks rows) (machine_of rows.count at table area) (machine_of rows.count (record { slot = at.slot + 1; progress = on; choice = Some (Task 0); recorded = at.recorded }) (set table at.slot mark) area)
     unfolding machine_of
-    adds-task b mark q e = rw (R.tries, add-one at.slot, led, some, e, q) (add-task (row_tasks n rows) n count few start long waits urgent stay going (sym eight) A c (first-is (Some c) some))
+    adds-task b mark q e = rw (R.tries, add-one at.slot, led, some, e, q) (add-task (row_tasks rows) rows.count count few start long waits urgent stay going (sym eight) A c (first-is (Some c) some))
 
   module _ (no : r ≡ None) where
     on-is : on ≡ stay
     unfolding led_to
     on-is = led ∙ rw no
 
-    seen-is : (q b : Bool) → q ≡ among (n + 1) area ((at.slot + 1) ∷ take n on) at.recorded → q ≡ b → among (suc n) area (suc at.slot ∷ take n stay) at.recorded ≡ b
-    seen-is q b e g = rw (add-one n, add-one at.slot, on-is) at (sym e) ∙ g
+    seen-is : (q b : Bool) → q ≡ among (rows.count + 1) area ((at.slot + 1) ∷ take rows.count on) at.recorded → q ≡ b → among (suc rows.count) area (suc at.slot ∷ take rows.count stay) at.recorded ≡ b
+    seen-is q b e g = rw (add-one rows.count, add-one at.slot, on-is) at (sym e) ∙ g
 
-    pub adds-idle : (q : Bool) (mark : ℕ) (free : Bool) → free ≡ eqb urgent 256 → free ≡ true → q ≡ among (n + 1) area ((at.slot + 1) ∷ take n on) at.recorded → q ≡ false → mark ≡ waits
-        → Tries (row_tasks n rows) (machine_of n at table area) (machine_of n (record { slot = at.slot + 1; progress = on; choice = Some (Task 0); recorded = at.recorded }) (set table at.slot mark) area)
+    pub adds-idle : (q : Bool) (mark : ℕ) (free : Bool) → free ≡ eqb urgent 256 → free ≡ true → q ≡ among (rows.count + 1) area ((at.slot + 1) ∷ take rows.count on) at.recorded → q ≡ false → mark ≡ waits
+        → Tries (row_tasks rows) (machine_of rows.count at table area) (machine_of rows.count (record { slot = at.slot + 1; progress = on; choice = Some (Task 0); recorded = at.recorded }) (set table at.slot mark) area)
     unfolding machine_of
     adds-idle q mark free u w e g i =
-        rw (R.tries, add-one at.slot, on-is, i) (add-idle (row_tasks n rows) n count few start long waits urgent stay going (sym eight) A (first-is None no) R.choices (eqb-true urgent 256 (sym u ∙ w)) (seen-is q false e g))
+        rw (R.tries, add-one at.slot, on-is, i) (add-idle (row_tasks rows) rows.count count few start long waits urgent stay going (sym eight) A (first-is None no) R.choices (eqb-true urgent 256 (sym u ∙ w)) (seen-is q false e g))
 
-    pub spent_seen : (q : Bool) → q ≡ among (n + 1) area ((at.slot + 1) ∷ take n on) at.recorded → q ≡ true
-        → Tries (row_tasks n rows) (machine_of n at table area) (machine_of n (record { slot = at.slot; progress = at.progress; choice = None; recorded = at.recorded }) table area)
+    pub spent_seen : (q : Bool) → q ≡ among (rows.count + 1) area ((at.slot + 1) ∷ take rows.count on) at.recorded → q ≡ true
+        → Tries (row_tasks rows) (machine_of rows.count at table area) (machine_of rows.count (record { slot = at.slot; progress = at.progress; choice = None; recorded = at.recorded }) table area)
     unfolding machine_of
-    spent_seen q e g = rw R.tries (idle-seen (row_tasks n rows) n count few start long waits urgent stay going (sym eight) A (first-is None no) R.choices (seen-is q true e g))
+    spent_seen q e g = rw R.tries (idle-seen (row_tasks rows) rows.count count few start long waits urgent stay going (sym eight) A (first-is None no) R.choices (seen-is q true e g))
 
     pub spent-urgent : (free : Bool) → free ≡ eqb urgent 256 → free ≡ false
-        → Tries (row_tasks n rows) (machine_of n at table area) (machine_of n (record { slot = at.slot; progress = at.progress; choice = None; recorded = at.recorded }) table area)
+        → Tries (row_tasks rows) (machine_of rows.count at table area) (machine_of rows.count (record { slot = at.slot; progress = at.progress; choice = None; recorded = at.recorded }) table area)
     unfolding machine_of
-    spent-urgent free u w = rw R.tries (idle-not (row_tasks n rows) n count few start long waits urgent stay going (sym eight) A (first-is None no) R.choices (eqb-false urgent 256 (sym u ∙ w)))
+    spent-urgent free u w = rw R.tries (idle-not (row_tasks rows) rows.count count few start long waits urgent stay going (sym eight) A (first-is None no) R.choices (eqb-false urgent 256 (sym u ∙ w)))

@@ -6,8 +6,8 @@ use Rattle.rules.specs.Tasks.{Fit}
 use Rattle.rules.specs.Hyper.{hyper}
 use Rattle.rules.specs.Positions.{live_position, start}
 use Rattle.rules.specs.Planner as model
-use Rattle.tasks.specs.declared.timed.Timed.{Timed}
-use Rattle.planner.specs.Rows.{row_tasks, Laid}
+use Rattle.planner.specs.declared.rows.Rows.{Rows}
+use Rattle.planner.specs.Rows.{row_tasks}
 use Rattle.planner.specs.Machine as machine
 use Rattle.planner.specs.Machine.{Machine, giving, emptied, backed, Took, Reaches}
 use Rattle.tasks.specs.declared.refusal.Refusal.{Refusal}
@@ -71,41 +71,37 @@ pub record Stepping (s : List model_task.Task) (K : ℕ) (m : Machine) (n : ℕ)
   pub given : Gives n at did table area reached
 
 -- a choice to try, a slot of the table for its mark, and an area that holds the records
-pub record Trying (n : ℕ) (rows : List Timed) (at : Search) (choice : Choice) (table area : List ℕ) : Type 0 where
-  pub laid : Laid n rows
+pub record Trying (rows : Rows) (at : Search) (choice : Choice) (table area : List ℕ) : Type 0 where
   pub slots : at.slot < length table
   pub few : at.slot < 4096
   pub tries : at.choice ≡ Some choice
-  pub choices : (number_of choice < n) ⊎ (number_of choice ≡ 255)
-  pub records : at.recorded * suc n ≤ length area
+  pub choices : (number_of choice < rows.count) ⊎ (number_of choice ≡ 255)
+  pub records : at.recorded * suc rows.count ≤ length area
 
 -- room for one more record, and the marks of the slots passed
-pub record Recording (n : ℕ) (rows : List Timed) (at : Search) (table area : List ℕ) : Type 0 where
-  pub laid : Laid n rows
+pub record Recording (rows : Rows) (at : Search) (table area : List ℕ) : Type 0 where
   pub slots : at.slot ≤ length table
-  pub more : suc at.recorded * suc n ≤ length area
+  pub more : suc at.recorded * suc rows.count ≤ length area
 
 -- what every step keeps: the numbers fit the buffers
-pub record Fits (n : ℕ) (rows : List Timed) (h room : ℕ) (at : Search) (table area : List ℕ) : Type 0 where
-  pub laid : Laid n rows
-  pub period : h ≡ hyper (row_tasks n rows)
+pub record Fits (rows : Rows) (h room : ℕ) (at : Search) (table area : List ℕ) : Type 0 where
+  pub period : h ≡ hyper (row_tasks rows)
   pub few : h ≤ 4096
   pub slots : at.slot ≤ h
   pub long : h ≤ length table
-  pub choices : (c : Choice) → at.choice ≡ Some c → (number_of c < n) ⊎ (number_of c ≡ 255)
+  pub choices : (c : Choice) → at.choice ≡ Some c → (number_of c < rows.count) ⊎ (number_of c ≡ 255)
   pub records : at.recorded ≤ room
-  pub holds : room * suc n ≤ length area
+  pub holds : room * suc rows.count ≤ length area
 
 -- what a run begins with: rows of tasks, a live start, a table that is long enough, and the room of the area
-pub record Opening (n : ℕ) (rows : List Timed) (h room : ℕ) (table area : List ℕ) : Type 0 where
-  pub laid : Laid n rows
-  pub some : 0 < n
-  pub fit : Fit (row_tasks n rows)
-  pub period : h ≡ hyper (row_tasks n rows)
+pub record Opening (rows : Rows) (h room : ℕ) (table area : List ℕ) : Type 0 where
+  pub some : 0 < rows.count
+  pub fit : Fit (row_tasks rows)
+  pub period : h ≡ hyper (row_tasks rows)
   pub few : h ≤ 4096
   pub long : h ≤ length table
-  pub begun : live_position (row_tasks n rows) (start (row_tasks n rows)) ≡ true
-  pub room_is : room ≡ model.room (row_tasks n rows) area
+  pub begun : live_position (row_tasks rows) (start (row_tasks rows)) ≡ true
+  pub room_is : room ≡ model.room (row_tasks rows) area
 
 -- a run of steps from a machine ended with this status, number of records, table and area
 pub record Ran (s : List model_task.Task) (K : ℕ) (m : Machine) (t : machine.Status) (recorded : ℕ) (table area : List ℕ) : Type 0 where

@@ -2,9 +2,10 @@
 ghost use Rattle.std.specs.Prelude.{◌≡◌, cond, ◌||◌, suc, ◌+◌, ◌*◌, ◌^◌, ◌≤◌, ◌<◌, eqb, length, map, take};
 ghost use Rattle.tasks.specs.Slots.{well_at};
 ghost use Rattle.tasks.specs.Timed.{timed_task};
-ghost use Rattle.planner.specs.Rows.{row_tasks, Laid};
+ghost use Rattle.planner.specs.Rows.{row_tasks};
 ghost use Rattle.planner.specs.Ahead.{one_more, urgent_of, urgent_in, IsWay, Ahead};
 
+use crate::rows::Rows;
 use tasks::Standing;
 use tasks::timed::{Since, Timed};
 
@@ -103,20 +104,18 @@ pub struct Outlook {
 // The look ahead from a position. Each task's progress becomes that in the next slot, unchosen, and that if it is chosen is put in `go`.
 // (With both arrays in the answer, planning takes up to 1.9 times as long as in C.)
 pub(crate) fn look_ahead(
-    rows: &[Timed; 8],
-    n: usize,
+    rows: &Rows,
     slot: u16,
     progress: &mut [u16; 8],
     go: &mut [Option<u16>; 8],
 ) -> Outlook
-    requires { Laid n rows.now }
-    ensures { Ahead (row_tasks n rows.now) slot (take n progress.old) result.waits (urgent_of result.urgent) progress.new (map one_more go.new) }
+    ensures { Ahead (row_tasks rows.now) slot (take rows.now.count progress.old) result.waits (urgent_of result.urgent) progress.new (map one_more go.new) }
 {
     let mut waits: u16 = 0;
     let mut late = 0;
     let mut first = 0;
-    for i in (0..n).rev() {
-        let way = ways_of(&rows[i], slot, progress[i]);
+    for i in (0..rows.count).rev() {
+        let way = ways_of(&rows.tasks[i], slot, progress[i]);
         progress[i] = way.stay;
         go[i] = way.go;
         waits = waits * 2 + way.rises as u16;

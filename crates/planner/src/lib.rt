@@ -13,7 +13,7 @@ ghost use Rattle.planner.specs.Views.{answer_of};
 
 use crate::area::fill;
 use crate::mark::spell;
-use crate::rows::lay_out;
+use crate::rows::Rows;
 use crate::search::{Frame, run};
 use tasks::{Position, Refusal, TaskSet};
 
@@ -51,18 +51,16 @@ pub fn plan(set: &TaskSet, table: &mut [u8], area: &mut [u16]) -> Result<Answer,
             dead: 0,
         });
     }
-    let n = set.used().len();
-    let room = area.len() / (n + 1);
-    let rows = lay_out(set);
+    let rows = Rows::of(set);
+    let room = area.len() / (rows.count + 1);
     let frame = Frame {
         rows: &rows,
-        n,
         h,
         room,
     };
     let answer = run(frame, table, area);
     match answer.word {
-        Word::Schedule => spell(&rows, n, table, h),
+        Word::Schedule => spell(&rows, table, h),
         Word::Infeasible | Word::OutOfRoom => fill(table, slots),
     }
     Ok(answer)

@@ -3,9 +3,10 @@ ghost use Rattle.std.specs.Prelude.{◌≡◌, cond, ◌&&◌, ◌++◌, suc, �
 ghost use Rattle.rules.specs.Tasks.{span, standing, is_ready};
 ghost use Rattle.rules.specs.Positions.{each, start, starts, restarted};
 ghost use Rattle.tasks.specs.Timed.{timed_task};
-ghost use Rattle.planner.specs.Rows.{row_tasks, Laid, Modest};
+ghost use Rattle.planner.specs.Rows.{row_tasks, Modest};
 ghost use Rattle.planner.specs.Marks.{lowered, raised, unstarted, chosen, spelled, Listed};
 
+use crate::rows::Rows;
 use tasks::timed::Timed;
 use tasks::{IDLE, Standing};
 
@@ -21,20 +22,13 @@ fn at_end(task: &Timed, slot: u16, progress: u16) -> u16
 }
 
 // The progress before a slot, from that at the start of the next one, `slot`, and the slot's mark.
-pub(crate) fn take_back(
-    rows: &[Timed; 8],
-    n: usize,
-    slot: u16,
-    after: [u16; 8],
-    mark: u8,
-) -> [u16; 8]
-    requires { Laid n rows.now }
-    ensures { take n result ≡ lowered mark (each (unstarted slot) 0 (row_tasks n rows.now) (take n after)) }
+pub(crate) fn take_back(rows: &Rows, slot: u16, after: [u16; 8], mark: u8) -> [u16; 8]
+    ensures { take rows.now.count result ≡ lowered mark (each (unstarted slot) 0 (row_tasks rows.now) (take rows.now.count after)) }
 {
     let mut before = [0; 8];
     let mut bits = mark;
-    for i in 0..n {
-        let end = at_end(&rows[i], slot, after[i]);
+    for (i, task) in rows.in_use().iter().enumerate() {
+        let end = at_end(task, slot, after[i]);
         before[i] = end.saturating_sub((bits % 2) as u16);
         bits /= 2;
     }
@@ -50,13 +44,12 @@ fn rose(task: &Timed, before: u16, bits: u8) -> bool
 }
 
 // The choice of a slot from its mark and the progress before it.
-pub(crate) fn choice_from(rows: &[Timed; 8], n: usize, before: &[u16; 8], mark: u8) -> u8
-    requires { Laid n rows.now }
-    ensures { result ≡ chosen 0 mark (row_tasks n rows.now) (take n before.now) }
+pub(crate) fn choice_from(rows: &Rows, before: &[u16; 8], mark: u8) -> u8
+    ensures { result ≡ chosen 0 mark (row_tasks rows.now) (take rows.now.count before.now) }
 {
     let mut bits = mark;
-    for i in 0..n {
-        if rose(&rows[i], before[i], bits) {
+    for (i, task) in rows.in_use().iter().enumerate() {
+        if rose(task, before[i], bits) {
             return i as u8;
         }
         bits /= 2;
@@ -65,14 +58,12 @@ pub(crate) fn choice_from(rows: &[Timed; 8], n: usize, before: &[u16; 8], mark: 
 }
 
 // The progress in the next slot, from that before a slot and the slot's mark.
-fn go_along(rows: &[Timed; 8], n: usize, slot: u16, mark: u8, progress: &mut [u16; 8])
-    requires laid { Laid n rows.now }
-    requires modest { Modest n progress.old }
-    ensures { take n progress.new ≡ each (restarted (suc slot)) 0 (row_tasks n rows.now) (raised mark (take n progress.old)) }
+fn go_along(rows: &Rows, slot: u16, mark: u8, progress: &mut [u16; 8])
+    requires { Modest rows.now.count progress.old }
+    ensures { take rows.now.count progress.new ≡ each (restarted (suc slot)) 0 (row_tasks rows.now) (raised mark (take rows.now.count progress.old)) }
 {
     let mut bits = mark;
-    for i in 0..n {
-        let task = &rows[i];
+    for (i, task) in rows.in_use().iter().enumerate() {
         let risen = progress[i] + (bits % 2) as u16;
         progress[i] = task.begun(task.since_end(slot), risen);
         bits /= 2;
@@ -80,17 +71,16 @@ fn go_along(rows: &[Timed; 8], n: usize, slot: u16, mark: u8, progress: &mut [u1
 }
 
 // The first h bytes of the table, from marks into choices.
-pub(crate) fn spell(rows: &[Timed; 8], n: usize, table: &mut [u8], h: u16)
-    requires laid { Laid n rows.now }
+pub(crate) fn spell(rows: &Rows, table: &mut [u8], h: u16)
     requires h_in_bounds { h ≤ length table.old }
-    requires listed { Listed (row_tasks n rows.now) h table.old }
-    ensures { table.new ≡ spelled (row_tasks n rows.now) (start (row_tasks n rows.now)) (take h table.old) ++ drop h table.old }
+    requires listed { Listed (row_tasks rows.now) h table.old }
+    ensures { table.new ≡ spelled (row_tasks rows.now) (start (row_tasks rows.now)) (take h table.old) ++ drop h table.old }
 {
     let mut progress = [0; 8];
     for slot in 0..h {
         let i = slot as usize;
         let mark = table[i];
-        table[i] = choice_from(rows, n, &progress, mark);
-        go_along(rows, n, slot, mark, &mut progress);
+        table[i] = choice_from(rows, &progress, mark);
+        go_along(rows, slot, mark, &mut progress);
     }
 }

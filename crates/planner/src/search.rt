@@ -9,9 +9,9 @@ ghost use Rattle.planner.specs.Views.{number_of, number_in, machine_of, shut, Tr
 use crate::ahead::{Urgent, bit_of, look_ahead};
 use crate::area::{put, seen};
 use crate::mark::{choice_from, take_back};
+use crate::rows::Rows;
 use crate::{Answer, Word};
 use tasks::IDLE;
-use tasks::timed::Timed;
 
 // A choice to try in a slot: a task, by its number less 1, or idle.
 #[derive(Clone, Copy, Debug, PartialEq, Eq)]
@@ -29,12 +29,11 @@ pub struct Search {
     pub recorded: usize,
 }
 
-// What a search is given and leaves as it is: the rows of n tasks, the slots of their hyper-period, and the room for records.
+// What a search is given and leaves as it is: the rows of its tasks, the slots of their hyper-period, and the room for records.
 // (No ghost fields: `Fits` and its kin bind these numbers to the search and to both lent buffers, which change with each step.)
 #[derive(Clone, Copy)]
 pub(crate) struct Frame<'a> {
-    pub rows: &'a [Timed; 8],
-    pub n: usize,
+    pub rows: &'a Rows,
     pub h: u16,
     pub room: usize,
 }
@@ -90,15 +89,15 @@ fn first_task(
 // The first choice that leads to a live position which is not recorded is added to the list; where there is none, all are tried.
 // (In place: a search handed on by value makes planning up to a tenth slower.)
 fn lead_on(frame: Frame<'_>, at: &mut Search, choice: Choice, table: &mut [u8], area: &[u16])
-    requires { Trying frame.n frame.rows.now at.old choice table.old area.now }
-    ensures { Tries (row_tasks frame.entry.n frame.entry.rows.now) (machine_of frame.entry.n at.old table.old area.now) (machine_of frame.entry.n at.new table.new area.now) }
+    requires { Trying frame.rows.now at.old choice table.old area.now }
+    ensures { Tries (row_tasks frame.entry.rows.now) (machine_of frame.entry.rows.now.count at.old table.old area.now) (machine_of frame.entry.rows.now.count at.new table.new area.now) }
 {
     let rows = frame.rows;
-    let n = frame.n;
+    let n = rows.count;
     let slot = at.slot;
     let before = at.progress;
     let mut go = [None; 8];
-    let ahead = look_ahead(rows, n, slot, &mut at.progress, &mut go);
+    let ahead = look_ahead(rows, slot, &mut at.progress, &mut go);
     let task = first_task(
         n,
         choice,
@@ -127,11 +126,11 @@ fn lead_on(frame: Frame<'_>, at: &mut Search, choice: Choice, table: &mut [u8], 
 #[tactic(auto, using(crate::proofs::Backs::back_laws))]
 // With no choice left to try the position is dead: it is recorded, and the last choice taken back, or the search is at its end.
 fn record_dead(frame: Frame<'_>, at: &mut Search, table: &[u8], area: &mut [u16]) -> Option<Answer>
-    requires { Recording frame.n frame.rows.now at.old table.now area.old }
-    ensures { Gives frame.entry.n at.new result table.now area.new (shut (row_tasks frame.entry.n frame.entry.rows.now) (machine_of frame.entry.n at.old table.now area.old)) }
+    requires { Recording frame.rows.now at.old table.now area.old }
+    ensures { Gives frame.entry.rows.now.count at.new result table.now area.new (shut (row_tasks frame.entry.rows.now) (machine_of frame.entry.rows.now.count at.old table.now area.old)) }
 {
     let rows = frame.rows;
-    let n = frame.n;
+    let n = rows.count;
     let slot = at.slot;
     let progress = at.progress;
     put(area, at.recorded, n, slot, &progress);
@@ -144,8 +143,8 @@ fn record_dead(frame: Frame<'_>, at: &mut Search, table: &[u8], area: &mut [u16]
     }
     let last = slot - 1;
     let mark = table[last as usize];
-    let before = take_back(rows, n, slot, progress, mark);
-    let choice = choice_from(rows, n, &before, mark);
+    let before = take_back(rows, slot, progress, mark);
+    let choice = choice_from(rows, &before, mark);
     *at = Search {
         slot: last,
         progress: before,
@@ -158,8 +157,8 @@ fn record_dead(frame: Frame<'_>, at: &mut Search, table: &[u8], area: &mut [u16]
 #[tactic(auto, using(crate::proofs::Steps::step_laws))]
 // One step of the search: the answer, if it ends the search.
 fn step(frame: Frame<'_>, at: &mut Search, table: &mut [u8], area: &mut [u16]) -> Option<Answer>
-    requires { Fits frame.n frame.rows.now frame.h frame.room at.old table.old area.old }
-    ensures { Stepping (row_tasks frame.entry.n frame.entry.rows.now) frame.entry.room (machine_of frame.entry.n at.old table.old area.old) frame.entry.n at.new result table.new area.new }
+    requires { Fits frame.rows.now frame.h frame.room at.old table.old area.old }
+    ensures { Stepping (row_tasks frame.entry.rows.now) frame.entry.room (machine_of frame.entry.rows.now.count at.old table.old area.old) frame.entry.rows.now.count at.new result table.new area.new }
 {
     if at.slot == frame.h {
         return Some(Answer {
@@ -182,8 +181,8 @@ fn step(frame: Frame<'_>, at: &mut Search, table: &mut [u8], area: &mut [u16]) -
 
 // The search from its start to its end.
 pub(crate) fn run(frame: Frame<'_>, table: &mut [u8], area: &mut [u16]) -> Answer
-    requires { Opening frame.n frame.rows.now frame.h frame.room table.old area.old }
-    ensures { Ran (row_tasks frame.entry.n frame.entry.rows.now) frame.entry.room (opened (row_tasks frame.entry.n frame.entry.rows.now) table.old area.old) (end_of result.word) result.dead table.new area.new }
+    requires { Opening frame.rows.now frame.h frame.room table.old area.old }
+    ensures { Ran (row_tasks frame.entry.rows.now) frame.entry.room (opened (row_tasks frame.entry.rows.now) table.old area.old) (end_of result.word) result.dead table.new area.new }
 {
     let mut at = Search {
         slot: 0,

@@ -1,6 +1,5 @@
 -- `planner::plan` replies as the rules say. Assumes nothing.
-use native.Mathlib.Omega.{arith}
-use Rattle.planner.proofs.Replies.{few-more, used-many, set-refused-too, table-short, never-begun, opens, may-spell, first_found, none_found}
+use Rattle.planner.proofs.Replies.{set-refused-too, table-short, never-begun, opens, may-spell, first_found, none_found}
 use mathlib.Core.Path.{ap}
 use mathlib.Core.Bool.{not}
 use Rattle.planner.proofs.plan.Goals as goal
@@ -14,25 +13,18 @@ returns-then-table-slots c = table-short _ _ _ _ c.in_ok-h.ensures.admitted.0 c.
 pub returns-then-not-is_live : goal.returns-then-not-is_live
 returns-then-not-is_live c = never-begun _ _ _ _ c.in_ok-h.ensures.admitted.0 c.in_ok-h.ensures.admitted.1 c.if-table-slots.false _ c.is_live.ensures (ap not c.if-not-is_live.true) _ c.fill.ensures
 
-pub overflow_add-room : goal.overflow_add-room
-overflow_add-room c = let n = few-more _ _ (used-many _ _ c.used-n.ensures.tasks) in omega arith
-
 pub run-answer-requires : goal.run-answer-requires
 run-answer-requires c =
-    opens _ _ _ _ c.in_ok-h.ensures.admitted.0 c.in_ok-h.ensures.admitted.1 c.if-table-slots.false _ c.is_live.ensures (ap not c.if-not-is_live.false) _ (used-many _ _ c.used-n.ensures.tasks) _ c.lay_out-rows.ensures
-
-pub spell-requires-clause-laid : goal.spell-requires-clause-laid
-spell-requires-clause-laid c =
-    (may-spell _ _ _ _ c.in_ok-h.ensures.admitted.0 c.in_ok-h.ensures.admitted.1 c.if-table-slots.false _ c.is_live.ensures (ap not c.if-not-is_live.false) _ (used-many _ _ c.used-n.ensures.tasks) _ c.lay_out-rows.ensures _ _ _ c.run-answer.ensures c.in-Schedule.is).0
+    opens _ _ _ _ c.in_ok-h.ensures.admitted.0 c.in_ok-h.ensures.admitted.1 c.if-table-slots.false _ c.is_live.ensures (ap not c.if-not-is_live.false) _ c.of-rows.ensures
 
 pub spell-requires-clause-listed : goal.spell-requires-clause-listed
 spell-requires-clause-listed c =
-    (may-spell _ _ _ _ c.in_ok-h.ensures.admitted.0 c.in_ok-h.ensures.admitted.1 c.if-table-slots.false _ c.is_live.ensures (ap not c.if-not-is_live.false) _ (used-many _ _ c.used-n.ensures.tasks) _ c.lay_out-rows.ensures _ _ _ c.run-answer.ensures c.in-Schedule.is).1.1
+    (may-spell _ _ _ _ c.in_ok-h.ensures.admitted.0 c.in_ok-h.ensures.admitted.1 c.if-table-slots.false _ c.is_live.ensures (ap not c.if-not-is_live.false) _ c.of-rows.ensures _ _ _ c.run-answer.ensures c.in-Schedule.is).1
 
 pub returns-in-Schedule : goal.returns-in-Schedule
 returns-in-Schedule c =
-    first_found _ _ _ _ c.in_ok-h.ensures.admitted.0 c.in_ok-h.ensures.admitted.1 c.if-table-slots.false _ c.is_live.ensures (ap not c.if-not-is_live.false) _ (used-many _ _ c.used-n.ensures.tasks) _ c.lay_out-rows.ensures _ _ _ c.run-answer.ensures _ c.in-Schedule.is c.spell.ensures
+    first_found _ _ _ _ c.in_ok-h.ensures.admitted.0 c.in_ok-h.ensures.admitted.1 c.if-table-slots.false _ c.is_live.ensures (ap not c.if-not-is_live.false) _ c.of-rows.ensures _ _ _ c.run-answer.ensures _ c.in-Schedule.is c.spell.ensures
 
 pub returns-in-Infeasible : goal.returns-in-Infeasible
 returns-in-Infeasible c =
-    none_found _ _ _ _ c.in_ok-h.ensures.admitted.0 c.in_ok-h.ensures.admitted.1 c.if-table-slots.false _ c.is_live.ensures (ap not c.if-not-is_live.false) _ (used-many _ _ c.used-n.ensures.tasks) _ c.lay_out-rows.ensures _ _ _ c.run-answer.ensures _ c.in-Infeasible.is c.fill-in-Infeasible.ensures
+    none_found _ _ _ _ c.in_ok-h.ensures.admitted.0 c.in_ok-h.ensures.admitted.1 c.if-table-slots.false _ c.is_live.ensures (ap not c.if-not-is_live.false) _ c.of-rows.ensures _ _ _ c.run-answer.ensures _ c.in-Infeasible.is c.fill-in-Infeasible.ensures

@@ -7,10 +7,10 @@ pub loop-i-init : goal.loop-i-init
 loop-i-init c = search (rules, looked-start)
 
 pub loop-i-preserved-then-not-way : goal.loop-i-preserved-then-not-way
-loop-i-preserved-then-not-way c = looked-late _ _ _ _ _ _ _ _ _ _ c.loop-i.invariant c.loop-i-test.true _ _ _ _ _ c.ways_of-way.ensures c.if-not-way.true
+loop-i-preserved-then-not-way c = looked-late _ _ _ _ _ _ _ _ _ c.loop-i.invariant c.loop-i-test.true _ _ _ _ _ c.ways_of-way.ensures c.if-not-way.true
 
 pub loop-i-preserved : goal.loop-i-preserved
-loop-i-preserved c = looked-well _ _ _ _ _ _ _ _ _ _ c.loop-i.invariant c.loop-i-test.true _ _ _ _ _ c.ways_of-way.ensures c.if-not-way.false
+loop-i-preserved c = looked-well _ _ _ _ _ _ _ _ _ c.loop-i.invariant c.loop-i-test.true _ _ _ _ _ c.ways_of-way.ensures c.if-not-way.false
 
 pub returns : goal.returns
-returns c = looked-end _ _ _ _ _ _ _ _ _ _ _ c.loop-i.invariant c.loop-i-test.false c.urgent_from.ensures
+returns c = looked-end _ _ _ _ _ _ _ _ _ _ c.loop-i.invariant c.loop-i-test.false c.urgent_from.ensures

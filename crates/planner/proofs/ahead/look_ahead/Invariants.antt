@@ -3,4 +3,4 @@ use Rattle.planner.proofs.Outlooks.{Looked}
 use Rattle.planner.proofs.ahead.look_ahead.Given as goal
 
 abbrev pub invariant-loop-i : goal.invariant-loop-i
-invariant-loop-i l = Looked l.n l.rows l.initial.progress l.slot l.i l.waits l.late l.first l.progress l.go
+invariant-loop-i l = Looked l.rows l.initial.progress l.slot l.i l.waits l.late l.first l.progress l.go

@@ -10,12 +10,12 @@ unfolding halved
 loop-i-init c = (search (rules, filled-start), search (rules, kept-start), refl)
 
 pub overflow_add-risen : goal.overflow_add-risen
-overflow_add-risen c = let m = kept-modest _ _ _ _ c.loop-i.invariant.1 c.requires.modest c.loop-i-test.true in omega arith
+overflow_add-risen c = let m = kept-modest _ _ _ _ c.loop-i.invariant.1 c.requires (search rules) in omega arith
 
 pub loop-i-preserved : goal.loop-i-preserved
 loop-i-preserved c =
     let v = c.loop-i.invariant in (
-      forth-step _ _ _ _ _ _ _ _ v.0 v.1 v.2 c.loop-i-test.true c.told-rows _ _ _ c.since_end.ensures c.begun.ensures,
+      forth-step _ _ _ _ _ _ _ v.0 v.1 v.2 _ c.in_use-task-items.ensures.tasks c.loop-i-test.true _ c.task-item.is _ _ c.since_end.ensures c.begun.ensures,
       kept_step _ _ _ _ v.1,
       halved-next _ _ _ v.2,
     )

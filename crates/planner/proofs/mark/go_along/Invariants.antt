@@ -4,4 +4,4 @@ use Rattle.planner.proofs.Loops.{Filled, Kept, halved, forth}
 use Rattle.planner.proofs.mark.go_along.Given as goal
 
 abbrev pub invariant-loop-i : goal.invariant-loop-i
-invariant-loop-i l = Filled (forth l.slot l.mark) l.n l.rows l.initial.progress l.i l.progress × Kept l.i l.initial.progress l.progress × (l.bits ≡ halved l.mark l.i)
+invariant-loop-i l = Filled (forth l.slot l.mark) l.rows l.initial.progress l.i l.progress × Kept l.i l.initial.progress l.progress × (l.bits ≡ halved l.mark l.i)

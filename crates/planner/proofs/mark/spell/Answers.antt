@@ -6,12 +6,12 @@ use Rattle.planner.proofs.mark.spell.Goals as goal
 pub loop-slot-init : goal.loop-slot-init
 loop-slot-init c = search (rules, spelling-start)
 
-pub go_along-requires-clause-modest : goal.go_along-requires-clause-modest
-go_along-requires-clause-modest c = search (rules, spelling-modest)
+pub go_along-requires : goal.go_along-requires
+go_along-requires c = search (rules, spelling-modest)
 
 pub loop-slot-preserved : goal.loop-slot-preserved
 loop-slot-preserved c =
-    spelling-step _ _ _ _ _ _ _ (search rules) c.loop-slot.invariant c.loop-slot-test.true _ c.choice_from.ensures _ (search rules) c.go_along.ensures
+    spelling-step _ _ _ _ _ _ c.loop-slot.invariant c.loop-slot-test.true _ c.choice_from.ensures _ (search rules) c.go_along.ensures
 
 pub returns : goal.returns
 returns c = search (rules, spelling-end)

@@ -3,4 +3,4 @@ use Rattle.planner.proofs.Loops.{Spelling}
 use Rattle.planner.proofs.mark.spell.Given as goal
 
 abbrev pub invariant-loop-slot : goal.invariant-loop-slot
-invariant-loop-slot l = Spelling l.n l.rows l.h l.initial.table l.slot l.table l.progress
+invariant-loop-slot l = Spelling l.rows l.h l.initial.table l.slot l.table l.progress

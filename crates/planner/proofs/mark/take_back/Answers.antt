@@ -11,7 +11,7 @@ loop-i-init c = (search (rules, filled-start), refl)
 pub loop-i-preserved : goal.loop-i-preserved
 loop-i-preserved c =
     let v = c.loop-i.invariant in
-    (rw (c.saturating_sub.ensures) (back_step _ _ _ _ _ _ _ _ v.0 v.1 c.loop-i-test.true c.told-rows _ _ c.at_end-end.ensures), halved-next _ _ _ v.1)
+    (rw (c.saturating_sub.ensures) (back_step _ _ _ _ _ _ _ v.0 v.1 _ c.in_use-task-items.ensures.tasks c.loop-i-test.true _ c.task-item.is _ c.at_end-end.ensures), halved-next _ _ _ v.1)
 
 pub returns : goal.returns
 returns c = search (rules, back_end)

@@ -4,4 +4,4 @@ use Rattle.planner.proofs.Loops.{Filled, halved, back}
 use Rattle.planner.proofs.mark.take_back.Given as goal
 
 abbrev pub invariant-loop-i : goal.invariant-loop-i
-invariant-loop-i l = Filled (back l.slot l.mark) l.n l.rows l.after l.i l.before × (l.bits ≡ halved l.mark l.i)
+invariant-loop-i l = Filled (back l.slot l.mark) l.rows l.after l.i l.before × (l.bits ≡ halved l.mark l.i)

@@ -3,16 +3,16 @@ use Rattle.planner.proofs.Repeats.{underway-start, step_fits, underway-step, ste
 use Rattle.planner.proofs.search.run.Goals as goal
 
 pub loop-answer-init : goal.loop-answer-init
-loop-answer-init c = underway-start _ _ _ _ _ _ c.requires
+loop-answer-init c = underway-start _ _ _ _ _ c.requires
 
 pub step-requires : goal.step-requires
-step-requires c = step_fits _ _ _ _ _ _ _ _ _ c.loop-answer.invariant
+step-requires c = step_fits _ _ _ _ _ _ _ _ c.loop-answer.invariant
 
 pub loop-answer-smaller : goal.loop-answer-smaller
-loop-answer-smaller c = step_less _ _ _ _ _ _ _ _ _ c.loop-answer.invariant _ _ _ (rw c.in_default.is at c.step.ensures)
+loop-answer-smaller c = step_less _ _ _ _ _ _ _ _ c.loop-answer.invariant _ _ _ (rw c.in_default.is at c.step.ensures)
 
 pub loop-answer-preserved : goal.loop-answer-preserved
-loop-answer-preserved c = underway-step _ _ _ _ _ _ _ _ _ c.loop-answer.invariant _ _ _ (rw c.in_default.is at c.step.ensures)
+loop-answer-preserved c = underway-step _ _ _ _ _ _ _ _ c.loop-answer.invariant _ _ _ (rw c.in_default.is at c.step.ensures)
 
 pub returns-in-Some : goal.returns-in-Some
-returns-in-Some c = stops _ _ _ _ _ _ _ _ _ c.loop-answer.invariant _ _ _ _ c.in-Some.ensures
+returns-in-Some c = stops _ _ _ _ _ _ _ _ c.loop-answer.invariant _ _ _ _ c.in-Some.ensures

@@ -5,7 +5,7 @@ use Rattle.planner.proofs.Repeats.{Underway}
 use Rattle.planner.proofs.search.run.Given as goal
 
 abbrev pub invariant-loop-answer : goal.invariant-loop-answer
-invariant-loop-answer l = Underway l.frame.n l.frame.rows.now l.frame.h l.frame.room l.initial.table l.initial.area l.table l.area l.at
+invariant-loop-answer l = Underway l.frame.rows.now l.frame.h l.frame.room l.initial.table l.initial.area l.table l.area l.at
 
 abbrev pub decreases-loop-answer : goal.decreases-loop-answer
 decreases-loop-answer l = left l.frame.room l.frame.h l.at.recorded l.at.slot (number_in l.at.choice)
