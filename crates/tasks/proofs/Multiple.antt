@@ -10,13 +10,15 @@ use borrow.Author.Tests.{ne_eqb, le-leb, lt-leb}
 use lib.ListN.{length, get_or, drop}
 use lib.Seq.{drop-cons}
 use Rattle.rules.specs.Hyper.{gcd_in, gcd, lcm, hyper}
-use Rattle.rules.specs.Records.{task_in}
+use Rattle.rules.specs.Records.{task_in, record_refusal}
 use Rattle.rules.proofs.Laws.{le-or-lt}
+use Rattle.rules.proofs.Set.Widths.{hyper-small}
 use Rattle.rules.proofs.Set.Multiple.{gcd-left, lcm-right, lcm-pos}
 use Rattle.tasks.specs.declared.Task.{Task}
+use Rattle.tasks.specs.declared.TaskSet.{TaskSet}
 use Rattle.std.proofs.lemmas.List.{drop_all}
 use Rattle.std.specs.Prelude.{List, map}
-use Rattle.tasks.specs.Views.{entry_of, task_of, within, joined}
+use Rattle.tasks.specs.Views.{entry_of, record_of, task_of, set_of, within, joined}
 
 -- ── the divisor ─────────────────────────────────────────────────────────────
 
@@ -68,6 +70,11 @@ multiple-many a b g e h = sym (within-many (a / gcd a b * b) (rw (sym e) h))
 pub multiple-few : (a b g : ℕ) → g ≡ gcd a b → a / g * b ≤ 4096 → Some (a / g * b) ≡ within (lcm a b)
 unfolding lcm
 multiple-few a b g e h = rw (← e) (sym (within-few (a / g * b) h))
+
+-- an admissible set's hyper-period is within the bound
+pub hyper-whole : (s : TaskSet) → record_refusal (record_of s) ≡ 0 → within (hyper (set_of s)) ≡ Some (hyper (set_of s))
+unfolding set_of
+hyper-whole s ok = within-few (hyper (set_of s)) (hyper-small (record_of s) ok)
 
 -- ── the set ─────────────────────────────────────────────────────────────────
 

@@ -8,7 +8,7 @@ use mathlib.Core.List.{List, [], ◌∷◌}
 use Prim.Native.Nat.{ℕ, suc, ◌+◌, ◌-◌, ◌*◌, ◌%◌, ◌≤◌, ◌<◌, ◌^◌}
 use native.Mathlib.Numerals.{add-one}
 use native.Mathlib.Omega.{arith}
-use lib.Dec.{ltb}
+use lib.Dec.{T, leb, ltb}
 use lib.IntN.{ℤ, pos, negsuc, ◌-ℤ◌}
 use lib.Signed.{mag, non_neg, le_z}
 use lib.ListN.{length, get_or, take, drop, drop_of_length-le, get_or-eq_default}
@@ -17,11 +17,11 @@ use mir.Syntax.{w8, w32}
 use mir.Val.{Fits, SFits, hbits, to_z, of_z}
 use mir.Facts.{to_z_pos, to_z-of_z}
 use borrow.Author.Rules.{sfits_of}
-use borrow.Author.Tests.{lt-ltb, le-ltb, le-leb}
+use borrow.Author.Tests.{lt-ltb, le-ltb, le-leb, lt-leb}
 use Rattle.rules.specs.Tasks as model
 use Rattle.rules.specs.Tasks.{sum, span, Standing, ready, waiting, done, within, standing, is_done, place_of}
 use Rattle.rules.specs.Positions.{laxity, in_time}
-use Rattle.rules.proofs.Laws.{le-or-lt, done_at, undone, mag-sub, mag_less}
+use Rattle.rules.proofs.Laws.{T_true, le-or-lt, done_at, undone, in_time-lax, in_time-use, mag-sub, mag_less}
 use Rattle.rules.proofs.Lists.{clash-01, clash-bool}
 use Rattle.tasks.specs.declared.Task.{Task}
 use Rattle.tasks.specs.declared.Standing as code
@@ -185,6 +185,9 @@ module _ (a b x y : ℕ) (h : a + b < 2 ^ 20) (k : x + y < 2 ^ 20) where
       let o = mag-minus (pos a -ℤ pos b) (pos x -ℤ pos y) in
       rw (difference a b h, difference x y k) (sfits_of (omega arith))
 
+  pub differences : to_z w32 (of_z w32 (to_z w32 (of_z w32 (to_z w32 a -ℤ to_z w32 b)) -ℤ to_z w32 (of_z w32 (to_z w32 x -ℤ to_z w32 y)))) ≡ (pos a -ℤ pos b) -ℤ (pos x -ℤ pos y)
+  differences = to_z-of_z differences-fit ∙ ap₂ (λ u v. u -ℤ v) (difference a b h) (difference x y k)
+
 -- ── in time, by the progress and the length of the pattern ─────────────────
 
 from_zero : (z : ℤ) → le_z (pos 0) z ≡ non_neg z
@@ -206,3 +209,15 @@ module _ (τ : model.Task) (length p : ℕ) (whole : length ≡ span τ) where
   pub in-time-left : (e : ℕ) → p < length → le_z (pos 0) (laxity τ e p) ≡ in_time e τ p
   unfolding in_time
   in-time-left e h = rw (undone-till h) (from_zero (laxity τ e p))
+
+-- a job that is not done is in time where time and length do not pass deadline and progress
+not_so : (b : Bool) → (T b → ⊥) → b ≡ false
+not_so true h = absurd (h tt)
+not_so false h = refl
+
+pub lax-is : (e : ℕ) (τ : model.Task) (p : ℕ) → p < span τ → leb (e + span τ) (τ.deadline + p) ≡ in_time e τ p
+lax-is e τ p h = go (le-or-lt (e + span τ) (τ.deadline + p))
+  where
+    go : (e + span τ ≤ τ.deadline + p) ⊎ (τ.deadline + p < e + span τ) → leb (e + span τ) (τ.deadline + p) ≡ in_time e τ p
+    go (inl k) = le-leb (e + span τ) (τ.deadline + p) k ∙ sym (T_true (in_time e τ p) (in_time-lax e τ p (omega arith) k))
+    go (inr k) = lt-leb (e + span τ) (τ.deadline + p) k ∙ sym (not_so (in_time e τ p) (λ t. let l = in_time-use e τ p h t in omega arith))
