@@ -104,6 +104,7 @@ pub fn read(list: &[u8]) -> Result<TaskSet, Refused<'_>>
     while !rest.is_empty() {
         let start = list.len() - rest.len();
         let (text, behind) = first_line(rest);
+        // (No `map_err` and `?`: the closure's clause stays folded in the loop's goals.)
         set = match after_line(set, text) {
             Ok(more) => more,
             Err(why) => {

@@ -9,6 +9,7 @@ use crate::rows::Rows;
 use tasks::Standing;
 use tasks::timed::{Since, Timed};
 
+// (No Option for `stay`: it is told whether the task ends the slot well or not.)
 // One task: whether its progress rises unchosen, whether it ends the slot well unchosen, its progress in the next slot unchosen, and chosen, if
 // it may be chosen and ends the slot well.
 #[derive(Clone, Copy, Debug, PartialEq, Eq)]
@@ -114,6 +115,7 @@ pub(crate) fn look_ahead(
     let mut waits: u16 = 0;
     let mut late = 0;
     let mut first = 0;
+    // (By place: three arrays go side by side, from the last task to the first.)
     for i in (0..rows.count).rev() {
         let way = ways_of(&rows.tasks[i], slot, progress[i]);
         progress[i] = way.stay;

@@ -43,7 +43,7 @@ fn rose(task: &Timed, before: u16, bits: u8) -> bool
     bits % 2 == 1 && matches!(task.standing_at(before), Standing::Ready)
 }
 
-// The choice of a slot from its mark and the progress before it.
+// The choice of a slot from its mark and the progress before it: a byte, as the table takes it.
 pub(crate) fn choice_from(rows: &Rows, before: &[u16; 8], mark: u8) -> u8
     ensures { result ≡ chosen 0 mark (row_tasks rows.now) (take rows.now.count before.now) }
 {

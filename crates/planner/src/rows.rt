@@ -4,7 +4,7 @@ ghost use Rattle.std.specs.Prelude.{◌≤◌};
 use tasks::timed::Timed;
 use tasks::{Task, TaskSet};
 
-// The tasks in use, the first `count` of the eight; the others are blank.
+// The tasks in use, the first `count` of the eight; the others are blank. (An array with its count: it needs no heap.)
 #[derive(Clone, Copy)]
 pub(crate) struct Rows {
     pub tasks: [Timed; 8],

@@ -13,7 +13,7 @@ use crate::rows::Rows;
 use crate::{Answer, Word};
 use tasks::IDLE;
 
-// A choice to try in a slot: a task, by its number less 1, or idle.
+// A choice to try in a slot: a task, by its number less 1, or idle. (No Option: where there is none, all are tried.)
 #[derive(Clone, Copy, Debug, PartialEq, Eq)]
 pub enum Choice {
     Task(u8),

@@ -47,6 +47,7 @@ pub struct Job {
     pub given: u8,
 }
 
+// (Arrays side by side: the form of a state is named so, and C has it so.)
 // The player's state: the task set, the slot, the planned progress and the job of each task, and who ran last.
 #[derive(Clone, Copy, Debug, Default, PartialEq, Eq)]
 pub struct State {

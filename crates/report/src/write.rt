@@ -104,7 +104,7 @@ impl<'a> Text<'a> {
 }
 
 #[tactic(auto, using(crate::proofs::Slots::byte_laws))]
-// A slot's choice as it is shown: a dot for idle, else the task's number.
+// A slot's choice as it is shown: a dot for idle, else the task's number. (An entry is a byte and has no type to convert.)
 fn slot_byte(choice: u8) -> u8
     requires { Choice choice }
     ensures { result ≡ slot_byte choice }

@@ -62,10 +62,7 @@ impl Task {
     pub fn units_at(&self, i: usize) -> u16
         ensures { result ≡ get_or (task_of self.now).pattern i 0 }
     {
-        match self.entries().get(i) {
-            Some(units) => u16::from(*units),
-            None => 0,
-        }
+        self.entries().get(i).map_or(0, |units| u16::from(*units))
     }
 
     // Length L: the sum of the whole pattern.

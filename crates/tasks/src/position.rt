@@ -14,7 +14,7 @@ pub struct Position {
 }
 
 // Where a choice leads: whether it is an allowed choice to a live position, and the progress after it. (No Option: the progress is told of every
-// choice.)
+// choice, clause `lands`.)
 #[derive(Clone, Copy, Debug, PartialEq, Eq)]
 pub struct Onward {
     pub legal: bool,
@@ -26,6 +26,7 @@ impl TaskSet {
     pub fn is_live(&self, at: &Position) -> bool
         ensures { result ≡ live_position (set_of self.now) (position_of self.now at.now.slot at.now.progress) }
     {
+        // (No `zip` and `all`: what such a chain answers stays open.)
         for (i, task) in self.used().iter().enumerate() {
             let task = Timed::from(*task);
             if !task.in_time(task.since_start(at.slot), at.progress[i]) {

@@ -7,9 +7,6 @@ ghost use Rattle.tasks.specs.Views.{entry_of, record_of, task_of, set_of, within
 
 use crate::{Refusal, Task, TaskSet};
 
-// The longest period, deadline and hyper-period.
-const LONGEST: u16 = 4096;
-
 // The greatest common divisor, by recursion on a falling remainder.
 fn divisor(a: u32, b: u32) -> u32
     ensures { result ≡ gcd a b }
@@ -96,7 +93,7 @@ impl Task {
 }
 
 // The judgement on a set: its refusal, if it has one, and its hyper-period, if that is at most 4,096. (No Result: the hyper-period is told of a
-// refused set too.)
+// refused set too, clause `period`.)
 #[derive(Clone, Copy, Debug, PartialEq, Eq)]
 pub struct Judged {
     pub refusal: Option<Refusal>,
@@ -120,6 +117,7 @@ impl TaskSet {
     {
         let used = self.used();
         let mut hyper = Some(1);
+        // (By place: over `iter().rev()` the check learns nothing of the items.)
         for i in (0..used.len()).rev() {
             hyper = joined(used[i].period, hyper);
         }
@@ -156,10 +154,7 @@ impl TaskSet {
             return Err(Refusal::TaskCount);
         }
         self.admit_tasks()?;
-        match self.hyper_period() {
-            Some(hyper) => Ok(hyper),
-            None => Err(Refusal::HyperTooLong),
-        }
+        self.hyper_period().ok_or(Refusal::HyperTooLong)
     }
 
     // The set's refusal, and its hyper-period whether it is refused or not.

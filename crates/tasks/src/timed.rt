@@ -175,7 +175,7 @@ impl Timed {
 }
 
 // What a slot does to one task: whether it ends the slot well and begins the next one live, and its progress then. (No Option: the progress is
-// told in any case.)
+// told in any case, clause `on`.)
 #[derive(Clone, Copy, Debug, PartialEq, Eq)]
 pub struct Passed {
     pub well: bool,

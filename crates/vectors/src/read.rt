@@ -31,7 +31,7 @@ impl<'a> Iterator for Fields<'a> {
     }
 }
 
-// A digit's value, and 0 for another sign.
+// A digit's value, and 0 for another sign. (By hand: the library's digits are of a `char`, and give None.)
 fn digit(sign: u8) -> usize {
     match sign {
         b'0'..=b'9' => usize::from(sign - b'0'),
@@ -48,7 +48,7 @@ pub fn number(word: &[u8]) -> usize {
     n
 }
 
-// The value of a hexadecimal digit in small letters, and 0 for another sign.
+// The value of a hexadecimal digit in small letters, and 0 for another sign. (By hand: as above.)
 fn hexadecimal(sign: u8) -> u8
     ensures { result < 16 }
 {
@@ -93,6 +93,7 @@ fn next_piece(line: &[u8]) -> Option<(Piece, &[u8])>
 pub fn unescape(alloc: Global, line: &[u8]) -> Result<(Vec<u8>, &[u8]), AllocError> {
     let mut list = Vec::new(alloc);
     let mut rest = line;
+    // (No iterator: what is left is needed behind the last piece.)
     while let Some((piece, behind)) = next_piece(rest) {
         list.resize(list.len().saturating_add(piece.times).min(MOST), piece.byte)?;
         rest = behind;

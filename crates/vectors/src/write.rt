@@ -44,7 +44,8 @@ impl Display for Text<'_> {
     }
 }
 
-// The sign of a table's entry: the task's number, a dot for idle, a line for a byte that was there before.
+// The sign of a table's entry: the task's number, a dot for idle, a line for a byte that was there before. (A match: an entry is a byte and has no
+// type to convert.)
 pub fn slot_sign(entry: u8) -> u8 {
     match entry {
         IDLE => b'.',
