@@ -16,6 +16,8 @@ fn same_record(area: &[u16], at: usize, n: usize, slot: u16, progress: &[u16; 8]
 
 #[tactic(auto, using(crate::proofs::Records::left_laws))]
 // Whether the record of a slot and n tasks' progress is among the first `recorded` of the area, from the newest to the oldest.
+// (The array with n, here and below: as a slice of it or a `Position` planning takes up to a tenth longer on short tables, and misses its bar. The
+// area is lent and written by turns, so it goes beside its number of records.)
 pub(crate) fn seen(area: &[u16], recorded: usize, n: usize, slot: u16, progress: &[u16; 8]) -> bool
     requires { (n ≤ 8) × (recorded * (n + 1) ≤ length area.now) }
     ensures { result ≡ among (n + 1) area.now (slot ∷ take n progress.now) recorded }
