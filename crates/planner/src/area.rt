@@ -22,6 +22,7 @@ pub(crate) fn seen(area: &[u16], recorded: usize, n: usize, slot: u16, progress:
     requires { (n ≤ 8) × (recorded * (n + 1) ≤ length area.now) }
     ensures { result ≡ among (n + 1) area.now (slot ∷ take n progress.now) recorded }
 {
+    // (No `any`: what `rev` and `any` answer stays open.)
     for k in (0..recorded).rev() {
         if same_record(area, k * (n + 1), n, slot, progress) {
             return true;

@@ -40,6 +40,7 @@ pub fn plan(set: &TaskSet, table: &mut [u8], area: &mut [u16]) -> Result<Answer,
     if table.len() < slots {
         return Err(Refusal::ShortTable);
     }
+    // (Written out: over a derived `Default` the proof did not close.)
     let start = Position {
         slot: 0,
         progress: [0; 8],

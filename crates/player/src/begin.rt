@@ -64,6 +64,7 @@ pub(crate) fn is_live(set: &TaskSet, table: &[u8]) -> bool
     requires { length table.now ≤ 65535 }
     ensures { result ≡ (live_position (set_of set.now) (start (set_of set.now)) && live_from (set_of set.now) (start (set_of set.now)) table.now) }
 {
+    // (Written out: over a derived `Default` the proof did not close.)
     let mut at = Position {
         slot: 0,
         progress: [0; 8],

@@ -102,6 +102,7 @@ fn jobs_in(bytes: &[u8; STATE_SIZE]) -> Option<[Job; 8]>
 {
     let (held, _) = bytes[JOBS..LAST].as_chunks::<JOB_SIZE>();
     let mut jobs = [Job::default(); 8];
+    // (A loop, since `?` leaves from it.)
     for i in 0..8 {
         jobs[i] = Job::from_bytes(&held[i])?;
     }

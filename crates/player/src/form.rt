@@ -78,6 +78,7 @@ fn task_fits(task: &Task, slot: u16, progress: u16, ran: bool, job: &Job) -> boo
 fn tasks_fit(state: &State) -> bool
     ensures { result ≡ tasks_fit (state_of state.now) 0 }
 {
+    // (No `zip` and `all`: three arrays go side by side.)
     for (i, task) in state.set.used().iter().enumerate() {
         if !task_fits(
             task,

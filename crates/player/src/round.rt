@@ -11,7 +11,7 @@ use crate::form::Formed;
 use crate::turn::{Report, TaskTurn};
 use crate::{Cause, Job, State};
 
-// What the turns of all tasks give: their jobs, their faults, and who runs.
+// What the turns of all tasks give: their jobs, their faults, and who runs. (Side by side, as the state and the reply take them.)
 #[derive(Clone, Copy, Debug, Default, PartialEq, Eq)]
 pub struct TurnsTaken {
     pub jobs: [Job; 8],

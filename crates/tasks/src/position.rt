@@ -48,7 +48,7 @@ impl TaskSet {
         i < used.len() && Timed::from(used[i]).standing_at(progress[i]).is_ready()
     }
 
-    // Where a choice leads from a position.
+    // Where a choice, a byte of a table, leads from a position.
     pub fn advance(&self, at: &Position, choice: u8) -> Onward
         ensures leads { result.legal ≡ legal (set_of self.now) (position_of self.now at.now.slot at.now.progress) choice }
         ensures lands { result.progress ≡ array_of (next (set_of self.now) (position_of self.now at.now.slot at.now.progress) choice).progress }

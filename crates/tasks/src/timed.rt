@@ -47,6 +47,7 @@ impl From<Task> for Timed {
     }
 }
 
+// (One task's progress and a slot go by themselves: a `Position` holds the progress of all.)
 impl Timed {
     ghost use Rattle.tasks.specs.Views.{standing_of};
     ghost use Rattle.tasks.specs.Timed.{timed_task};
