@@ -8,7 +8,7 @@ apply, or was not tried, or is refused by a limit of the prover, for no stated r
 name that is not in scope, or a goal that bears a name of the edit's own: the answer to that goal stands under the old name and was not read.
 
 Not seen here: a goal that an edit renames by another number or comparison, as `gt4096` to `gt4097`. Such an edit passes even if it means what the
-program means, as tasks/bound_4097 does. The table of edits in docs/PORT.md says what a trial by hand found of each.
+program means. The table of edits in docs/PORT.md says what a trial by hand found of each that stood then.
 """
 import glob
 import os
