@@ -95,9 +95,9 @@ fn lead_on(frame: Frame<'_>, at: &mut Search, choice: Choice, table: &mut [u8], 
     let rows = frame.rows;
     let n = rows.count;
     let slot = at.slot;
-    let before = at.progress;
+    let mut before = [0; 8];
     let mut go = [None; 8];
-    let ahead = look_ahead(rows, slot, &mut at.progress, &mut go);
+    let ahead = look_ahead(rows, slot, &mut at.progress, &mut before, &mut go);
     let task = first_task(
         n,
         choice,
