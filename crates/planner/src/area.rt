@@ -11,7 +11,15 @@ fn same_record(area: &[u16], at: usize, n: usize, slot: u16, progress: &[u16; 8]
     requires { (n ≤ 8) × (at + (n + 1) ≤ length area.now) }
     ensures { result ≡ same_list (slot ∷ take n progress.now) (take (n + 1) (drop at area.now)) }
 {
-    slot == area[at] && progress[..n] == area[at + 1..at + 1 + n]
+    if area[at] != slot {
+        return false;
+    }
+    for j in 0..n {
+        if area[at + 1 + j] != progress[j] {
+            return false;
+        }
+    }
+    true
 }
 
 #[tactic(auto, using(crate::proofs::Records::left_laws))]
