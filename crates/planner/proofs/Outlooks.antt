@@ -13,9 +13,9 @@ use mir.Syntax.{w16}
 use mir.Val.{Fits, bool_byte}
 use lib.ListN.{length-map, length, get_or, take, drop, set, length-set, length-drop, drop_of_length-le}
 use lib.Seq.{map-set, drop-cons, length-take-le, get_or-take, get_or-set_same, get_or-set_other, ext_get_or}
-use Rattle.rules.specs.Tasks.{Task, no_task, span, standing, is_ready, is_done}
-use Rattle.rules.specs.Positions.{idle, moved, passed, ended}
-use Rattle.rules.proofs.Laws.{le-or-lt}
+use Rattle.rules.specs.Tasks.{Task, no_task, span, standing, done, is_ready, is_done}
+use Rattle.rules.specs.Positions.{idle, moved, passed, ended, in_time}
+use Rattle.rules.proofs.Laws.{le-or-lt, done_at}
 use Rattle.rules.proofs.Run.Reach.{ended-length, ended_at}
 use Rattle.tasks.specs.declared.Standing as code
 use Rattle.tasks.specs.declared.Standing.TheVariants.{Ready, Waiting, Done}
@@ -28,7 +28,7 @@ use Rattle.planner.specs.Rows.{task_at, row_tasks}
 use Rattle.planner.specs.Marks.{mark}
 use Rattle.tasks.specs.Slots.{onward, well_at, well_after}
 use Rattle.tasks.specs.Timed.{timed_task}
-use Rattle.tasks.proofs.Timing.{well-after}
+use Rattle.tasks.proofs.Timing.{well-after, whole-is}
 use Rattle.planner.specs.Ahead.{stayed, gone, claim, claimed, one_more, urgent_in, IsWay, Ahead}
 use Rattle.planner.proofs.Marks.{mark-byte}
 use Rattle.planner.proofs.Places.{rows-length, row_at, row_is}
@@ -84,6 +84,13 @@ module _ (t : ℕ) (τ : Task) (p since : ℕ) (k : code.Standing) (stands : sta
     staying = rw (← stands, h) (f ∙ onward-at p);
     going = rw (← stands, h);
   }
+
+-- once done it ends a slot as at its length
+pub done-ends : (e : ℕ) (τ : Timed) (p : ℕ) (k : code.Standing) → standing_of k ≡ standing (timed_task τ) p → k ≡ Done → (w : Bool) → w ≡ well_at e (timed_task τ) τ.length → w ≡ well_at e (timed_task τ) p
+unfolding well_at in_time is_done standing_of
+done-ends e τ p k stands h w f =
+    let d : standing (timed_task τ) τ.length ≡ done = done_at (timed_task τ) τ.length (let l = whole-is τ in omega arith) in
+    f ∙ rw (d, ← stands, h)
 
 pub ruleset way_laws = (below-ready, below_waiting)
 
