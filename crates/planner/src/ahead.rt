@@ -50,7 +50,7 @@ fn ways_of(task: &Timed, slot: u16, progress: u16) -> Ways
             stay: task.begun(since, progress + 1),
             go: None,
         },
-        // (At its length, as all that is done ends a slot alike: a test less for each task that is done early.)
+        // (Whatever is done ends a slot alike. At the length a test falls away, for each task that is done early.)
         Standing::Done => Ways {
             rises: false,
             well: task.ends_well(since, task.length),
@@ -103,9 +103,9 @@ pub struct Outlook {
     pub urgent: Urgent,
 }
 
-// The look ahead from a position. Each task's progress is put in `before` and becomes that in the next slot, unchosen; that if it is chosen is put
-// in `go`. (With these arrays in the answer, planning takes up to 1.9 times as long as in C. A whole copy of the progress, right behind the writes
-// of its entries, has to wait for them: planning takes up to a fifth longer.)
+// The look ahead from a position. Each task's progress is put in `before` and becomes that in the next slot, unchosen, and that if it is chosen is
+// put in `go`. (With arrays in the answer, planning takes up to 1.9 times as long as in C. The progress is saved one by one: a whole copy waits
+// for the writes just before it, and planning takes up to a tenth longer.)
 pub(crate) fn look_ahead(
     rows: &Rows,
     slot: u16,
@@ -120,7 +120,7 @@ pub(crate) fn look_ahead(
     // (Counted, and made an enum at the end: a match for each task costs a tenth more instructions, near the bar of planning.)
     let mut late = 0;
     let mut first = 0;
-    // (By place: three arrays go side by side, from the last task to the first.)
+    // (By place: four arrays go side by side, from the last task to the first.)
     for i in (0..rows.count).rev() {
         let way = ways_of(&rows.tasks[i], slot, progress[i]);
         before[i] = progress[i];

@@ -22,7 +22,7 @@ fn at_end(task: &Timed, slot: u16, progress: u16) -> u16
 }
 
 // The progress before a slot, from that at the start of the next one, `slot`, and the slot's mark.
-// (In place: a new array, copied whole right behind the writes of its entries, has to wait for them.)
+// (In place: a new array is copied whole, and waits for the writes just before it.)
 pub(crate) fn take_back(rows: &Rows, slot: u16, progress: &mut [u16; 8], mark: u8)
     ensures { take rows.now.count progress.new ≡ lowered mark (each (unstarted slot) 0 (row_tasks rows.now) (take rows.now.count progress.old)) }
 {

@@ -53,6 +53,7 @@ impl Timed {
     ghost use Rattle.tasks.specs.Timed.{timed_task};
 
     // Ready inside a step, waiting inside a wait, done at L.
+    // (It walks by itself: told by `place_in`, the place is tested twice more, and planning misses its bar.)
     pub fn standing_at(&self, progress: u16) -> Standing
         ensures { standing_of result ≡ standing (timed_task self.now) progress }
     {
