@@ -1,7 +1,6 @@
 -- `tasks::timed::standing_at` is how progress stands, by the entry that it stands in. Assumes nothing.
 use borrow.Author.Rules.{rules}
 use native.Mathlib.Omega.{arith}
-use mathlib.Core.Path.{◌≡◌, sym, ◌∙◌}
 use Rattle.tasks.specs.Timed.{timed_task}
 use Rattle.tasks.specs.Views.{standing_of}
 use Rattle.tasks.proofs.OneTask.{place_laws, walked-ready, walked-waiting, walked-done}
