@@ -69,6 +69,26 @@ module _ (f : ℕ → model.Task → ℕ → ℕ) (rows : Rows) (ps : List ℕ) 
       at : (j : ℕ) → j < rows.count → f (0 + j) (get_or (row_tasks rows) j no_task) (get_or (take rows.count ps) j 0) ≡ f j (task_at rows.tasks j) (get_or ps j 0)
       at j k = rw (row_at rows j k, get_or-take rows.count ps j 0 k) (ap (λ i. f i (task_at rows.tasks j) (get_or ps j 0)) (omega arith))
 
+-- the numbers from place i on are as they were
+unfoldable pub Kept : ℕ → List ℕ → List ℕ → Type 0
+Kept i ps out = (j : ℕ) → i ≤ j → get_or out j 0 ≡ get_or ps j 0
+
+pub kept-start : (ps : List ℕ) → Kept 0 ps ps
+unfolding Kept
+kept-start ps j h = refl
+
+pub kept_step : (i q : ℕ) (ps out : List ℕ) → Kept i ps out → Kept (i + 1) ps (set out i q)
+unfolding Kept
+kept_step i q ps out v j h = get_or-set_other out i j q 0 (λ z. let y : ⊥ = omega arith in y) ∙ v j (omega arith)
+
+kept_at : (i : ℕ) (ps out : List ℕ) → Kept i ps out → get_or out i 0 ≡ get_or ps i 0
+unfolding Kept
+kept_at i ps out v = v i (omega arith)
+
+pub kept-modest : (n i : ℕ) (ps out : List ℕ) → Kept i ps out → Modest n ps → i < n → get_or out i 0 ≤ 4096
+unfolding Modest
+kept-modest n i ps out v m h = rw (kept_at i ps out v) (m i h)
+
 -- ── a bit for each task ─────────────────────────────────────────────────────
 
 -- the mark from place i on
@@ -111,12 +131,12 @@ unfolding halved
 lowered-all slot b s ps = sym (lowered-each slot b 0 s ps)
 
 module _ (slot b : ℕ) (rows : Rows) (ps : List ℕ) where
-  pub back_step : (i bits : ℕ) (out : List ℕ) → Filled (back slot b) rows ps i out → bits ≡ halved b i → (used : List Timed) → map timed_task used ≡ row_tasks rows → i < length used
-      → (τ : Timed) → τ ≡ get_or used i τ → (q : ℕ) → q ≡ cond (starts slot (timed_task τ)) (span (timed_task τ)) (get_or ps i 0)
+  pub back_step : (i bits : ℕ) (out : List ℕ) → Filled (back slot b) rows ps i out → Kept i ps out → bits ≡ halved b i → (used : List Timed) → map timed_task used ≡ row_tasks rows → i < length used
+      → (τ : Timed) → τ ≡ get_or used i τ → (q : ℕ) → q ≡ cond (starts slot (timed_task τ)) (span (timed_task τ)) (get_or out i 0)
       → Filled (back slot b) rows ps (i + 1) (set out i (q - bits % 2))
-  back_step i bits out v e used are h τ is q f =
+  back_step i bits out v k e used are h τ is q f =
       let m = used-many rows used are in
-      filled-step (back slot b) rows ps i (q - bits % 2) out v (omega arith) (back_at slot b i (task_at rows.tasks i) (get_or ps i 0) q (q - bits % 2) bits e (rw (used_is rows used are i τ h is) at f) refl)
+      filled-step (back slot b) rows ps i (q - bits % 2) out v (omega arith) (back_at slot b i (task_at rows.tasks i) (get_or ps i 0) q (q - bits % 2) bits e (rw (used_is rows used are i τ h is, kept_at i ps out k) at f) refl)
 
   pub back_end : (i : ℕ) (out : List ℕ) → Filled (back slot b) rows ps i out → rows.count ≤ i → take rows.count out ≡ lowered b (each (unstarted slot) 0 (row_tasks rows) (take rows.count ps))
   back_end i out v h = filled-end (back slot b) rows ps i out v h ∙ lowered-all slot b (row_tasks rows) (take rows.count ps)
@@ -139,26 +159,6 @@ raised-each slot b i (τ ∷ s) (p ∷ ps) = ap {B = List ℕ} (λ l. restarted 
 raised_all : (slot b : ℕ) (s : List model.Task) (ps : List ℕ) → each (forth slot b) 0 s ps ≡ each (restarted (suc slot)) 0 s (raised b ps)
 unfolding halved
 raised_all slot b s ps = raised-each slot b 0 s ps
-
--- the numbers from place i on are as they were
-unfoldable pub Kept : ℕ → List ℕ → List ℕ → Type 0
-Kept i ps out = (j : ℕ) → i ≤ j → get_or out j 0 ≡ get_or ps j 0
-
-pub kept-start : (ps : List ℕ) → Kept 0 ps ps
-unfolding Kept
-kept-start ps j h = refl
-
-pub kept_step : (i q : ℕ) (ps out : List ℕ) → Kept i ps out → Kept (i + 1) ps (set out i q)
-unfolding Kept
-kept_step i q ps out v j h = get_or-set_other out i j q 0 (λ z. let y : ⊥ = omega arith in y) ∙ v j (omega arith)
-
-kept_at : (i : ℕ) (ps out : List ℕ) → Kept i ps out → get_or out i 0 ≡ get_or ps i 0
-unfolding Kept
-kept_at i ps out v = v i (omega arith)
-
-pub kept-modest : (n i : ℕ) (ps out : List ℕ) → Kept i ps out → Modest n ps → i < n → get_or out i 0 ≤ 4096
-unfolding Modest
-kept-modest n i ps out v m h = rw (kept_at i ps out v) (m i h)
 
 module _ (slot b : ℕ) (rows : Rows) (ps : List ℕ) where
   pub forth-step : (i bits : ℕ) (out : List ℕ) → Filled (forth slot b) rows ps i out → Kept i ps out → bits ≡ halved b i → (used : List Timed) → map timed_task used ≡ row_tasks rows → i < length used

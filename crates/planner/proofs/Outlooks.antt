@@ -12,10 +12,10 @@ use lib.Dec.{eqb}
 use mir.Syntax.{w16}
 use mir.Val.{Fits, bool_byte}
 use lib.ListN.{length-map, length, get_or, take, drop, set, length-set, length-drop, drop_of_length-le}
-use lib.Seq.{map-set, drop-cons, length-take-le, get_or-take, get_or-set_same, get_or-set_other}
-use Rattle.rules.specs.Tasks.{Task, no_task, span, standing, is_ready, is_done}
-use Rattle.rules.specs.Positions.{idle, moved, passed, ended}
-use Rattle.rules.proofs.Laws.{le-or-lt}
+use lib.Seq.{map-set, drop-cons, length-take-le, get_or-take, get_or-set_same, get_or-set_other, ext_get_or}
+use Rattle.rules.specs.Tasks.{Task, no_task, span, standing, done, is_ready, is_done}
+use Rattle.rules.specs.Positions.{idle, moved, passed, ended, in_time}
+use Rattle.rules.proofs.Laws.{le-or-lt, done_at}
 use Rattle.rules.proofs.Run.Reach.{ended-length, ended_at}
 use Rattle.tasks.specs.declared.Standing as code
 use Rattle.tasks.specs.declared.Standing.TheVariants.{Ready, Waiting, Done}
@@ -28,7 +28,7 @@ use Rattle.planner.specs.Rows.{task_at, row_tasks}
 use Rattle.planner.specs.Marks.{mark}
 use Rattle.tasks.specs.Slots.{onward, well_at, well_after}
 use Rattle.tasks.specs.Timed.{timed_task}
-use Rattle.tasks.proofs.Timing.{well-after}
+use Rattle.tasks.proofs.Timing.{well-after, whole-is}
 use Rattle.planner.specs.Ahead.{stayed, gone, claim, claimed, one_more, urgent_in, IsWay, Ahead}
 use Rattle.planner.proofs.Marks.{mark-byte}
 use Rattle.planner.proofs.Places.{rows-length, row_at, row_is}
@@ -84,6 +84,13 @@ module _ (t : ℕ) (τ : Task) (p since : ℕ) (k : code.Standing) (stands : sta
     staying = rw (← stands, h) (f ∙ onward-at p);
     going = rw (← stands, h);
   }
+
+-- once done it ends a slot as at its length
+pub done-ends : (e : ℕ) (τ : Timed) (p : ℕ) (k : code.Standing) → standing_of k ≡ standing (timed_task τ) p → k ≡ Done → (w : Bool) → w ≡ well_at e (timed_task τ) τ.length → w ≡ well_at e (timed_task τ) p
+unfolding well_at in_time is_done standing_of
+done-ends e τ p k stands h w f =
+    let d : standing (timed_task τ) τ.length ≡ done = done_at (timed_task τ) τ.length (let l = whole-is τ in omega arith) in
+    f ∙ rw (d, ← stands, h)
 
 pub ruleset way_laws = (below-ready, below_waiting)
 
@@ -252,6 +259,33 @@ module _ (rows : Rows) (progress : List ℕ) (slot : ℕ) where
     pub looked-well : not well ≡ false → Looked (i - 1) (waits * 2 + bool_byte rises) late first (set stay (i - 1) st) (set go (i - 1) g)
     unfolding claim
     looked-well e = let k = v.counted in stepped late first (omega arith, v.byte, rw (not-false well e))
+
+  -- the progress of the tasks from place i on is saved
+  pub record Saved (i : ℕ) (was : List ℕ) : Type 0 where
+    pub whole : length was ≡ 8
+    pub same : (j : ℕ) → i ≤ j → j < rows.count → get_or was j 0 ≡ get_or progress j 0
+
+  pub saved-start : (was : List ℕ) → length was ≡ 8 → Saved rows.count was
+  saved-start was e = record { whole = e; same = λ j h k. let z : ⊥ = omega arith in absurd z }
+
+  pub saved-step : (i waits late first : ℕ) (stay : List ℕ) (go : List (Option ℕ)) (was : List ℕ) → Looked i waits late first stay go → 0 < i → Saved i was → Saved (i - 1) (set was (i - 1) (get_or stay (i - 1) 0))
+  saved-step i waits late first stay go was v h s =
+      let few = v.few in
+      let most = rows.few in
+      let e = s.whole in
+      record {
+        whole = length-set was (i - 1) (get_or stay (i - 1) 0) ∙ e;
+        same = written (λ j. get_or progress j 0) was (i - 1) (get_or stay (i - 1) 0) (omega arith) (v.kept (i - 1) (omega arith)) (λ j a b. s.same j (omega arith) b);
+      }
+
+  pub saved_end : (i : ℕ) (was : List ℕ) → length progress ≡ 8 → Saved i was → i ≤ 0 → take rows.count was ≡ now_of
+  saved_end i was e s h =
+      let few = rows.few in
+      let d = s.whole in
+      let a = length-take-le rows.count was (omega arith) in
+      let b = length-take-le rows.count progress (omega arith) in
+      ext_get_or 0 (take rows.count was) now_of (a ∙ sym b)
+      (λ j k. get_or-take rows.count was j 0 (omega arith) ∙ s.same j (omega arith) (omega arith) ∙ sym (get_or-take rows.count progress j 0 (omega arith)))
 
   pub looked-end : (i waits late first : ℕ) (stay : List ℕ) (go : List (Option ℕ)) (u : ℕ) → Looked i waits late first stay go → i ≤ 0 → u ≡ urgent_in late first
       → Ahead set-of slot now_of waits u stay (map one_more go)

@@ -9,9 +9,8 @@ use native.Mathlib.Numerals.{add-one}
 use native.Mathlib.Omega.{arith}
 use borrow.Author.Tests.{eq-eqb, ne_eqb, eqb-true}
 use lib.Dec.{T, eqb}
-use lib.Pointwise.{pointwise}
-use lib.ListN.{length, get_or, take, drop, length-append}
-use lib.Seq.{drop-cons, take_at, drop-append-add, drop-drop}
+use lib.ListN.{length, get_or, take, drop, length-drop, length-append}
+use lib.Seq.{drop-cons, drop-length, length-take-le, get_or-take, get_or-drop, take_at, drop-append-add, drop-drop}
 use Rattle.rules.specs.Lists.{In, same_list}
 use Rattle.rules.specs.Positions.{Position}
 use Rattle.rules.specs.Planner.{records}
@@ -22,32 +21,79 @@ use Rattle.planner.specs.Area.{record_at, among}
 
 -- ── a record, number by number ──────────────────────────────────────────────
 
--- `==` of two slices is the rules' test
-pub same-slices : (xs ys : List ℕ) → pointwise eqb xs ys ≡ same_list xs ys
+same_next : (a b : List ℕ) (i : ℕ) → i < length a → i < length b
+    → same_list (drop i a) (drop i b) ≡ eqb (get_or a i 0) (get_or b i 0) && same_list (drop (suc i) a) (drop (suc i) b)
 unfolding same_list
-same-slices [] [] = refl
-same-slices [] (y ∷ ys) = refl
-same-slices (x ∷ xs) [] = refl
-same-slices (x ∷ xs) (y ∷ ys) = rw (same-slices xs ys)
+same_next a b i h k = rw (drop-cons a i 0 h, drop-cons b i 0 k)
 
--- the slot and the numbers behind it
-first : (area progress : List ℕ) (at n slot : ℕ) → at + (n + 1) ≤ length area
-    → same_list (slot ∷ take n progress) (take (n + 1) (drop at area))
-    ≡ eqb slot (get_or area at 0) && pointwise eqb (take n progress) (take (at + 1 + n - (at + 1)) (drop (at + 1) area))
+same_end : (a b : List ℕ) (i : ℕ) → i ≡ length a → i ≡ length b → same_list (drop i a) (drop i b) ≡ true
 unfolding same_list
-first area progress at n slot h =
-    let m : at + 1 + n - (at + 1) ≡ n = omega arith in
-    rw (m, add-one n, drop-cons area at 0 (omega arith), add-one at, same-slices (take n progress) (take n (drop (suc at) area)))
+same_end a b i p q = rw (p, drop-length) (rw (sym p ∙ q, drop-length))
 
-pub same-slot : (area progress : List ℕ) (at n slot : ℕ) (b : Bool) → at + (n + 1) ≤ length area → slot ≡ get_or area at 0
-    → b ≡ pointwise eqb (take n progress) (take (at + 1 + n - (at + 1)) (drop (at + 1) area)) → b ≡ same_list (slot ∷ take n progress) (take (n + 1) (drop at area))
-same-slot area progress at n slot b h e f = f ∙ sym (first area progress at n slot h ∙ rw (eq-eqb slot (get_or area at 0) e))
+module _ (area : List ℕ) (at n slot : ℕ) (progress : List ℕ) where
+  abbrev wanted : List ℕ
+  wanted = slot ∷ take n progress
 
-pub other-slot : (area progress : List ℕ) (at n slot : ℕ) → at + (n + 1) ≤ length area → (slot ≡ get_or area at 0 → ⊥)
-    → eqb slot (get_or area at 0) ≡ same_list (slot ∷ take n progress) (take (n + 1) (drop at area))
-other-slot area progress at n slot h d = let e = ne_eqb slot (get_or area at 0) d in e ∙ sym (first area progress at n slot h ∙ rw e)
+  abbrev there : List ℕ
+  there = take (n + 1) (drop at area)
 
-pub ruleset alike = (same-slot, other-slot)
+  -- the numbers before place j + 1 agree
+  pub record Alike (j : ℕ) : Type 0 where
+    pub few : j ≤ n
+    pub most : n ≤ length progress
+    pub fits : at + (n + 1) ≤ length area
+    pub rest : same_list wanted there ≡ same_list (drop (suc j) wanted) (drop (suc j) there)
+
+  wanted-length : n ≤ length progress → length wanted ≡ suc n
+  wanted-length m = ap suc (length-take-le n progress m)
+
+  there-length : at + (n + 1) ≤ length area → length there ≡ suc n
+  there-length f = length-take-le (n + 1) (drop at area) (omega (arith, length-drop at area)) ∙ add-one n
+
+  there-at : (j : ℕ) → j < n + 1 → get_or there j 0 ≡ get_or area (at + j) 0
+  there-at j h = get_or-take (n + 1) (drop at area) j 0 h ∙ get_or-drop at area j 0
+
+  -- at the slot
+  first : n ≤ length progress → at + (n + 1) ≤ length area → same_list wanted there ≡ eqb slot (get_or area at 0) && same_list (drop 1 wanted) (drop 1 there)
+  first m f =
+      let k = there-length f in
+      let z : at + 0 ≡ at = omega arith in
+      same_next wanted there 0 (omega arith) (omega arith) ∙ rw (there-at 0 (omega arith), z)
+
+  pub alike-never : n ≤ length progress → at + (n + 1) ≤ length area → (get_or area at 0 ≡ slot → ⊥) → false ≡ same_list wanted there
+  alike-never m f d = sym (first m f ∙ rw (ne_eqb slot (get_or area at 0) (λ q. d (sym q))))
+
+  pub alike-start : n ≤ length progress → at + (n + 1) ≤ length area → get_or area at 0 ≡ slot → Alike 0
+  alike-start m f d = record { few = omega arith; most = m; fits = f; rest = first m f ∙ rw (eq-eqb slot (get_or area at 0) (sym d)) }
+
+  -- at a task's progress
+  further : (j : ℕ) → Alike j → j < n → same_list wanted there ≡ eqb (get_or progress j 0) (get_or area (at + 1 + j) 0) && same_list (drop (suc (suc j)) wanted) (drop (suc (suc j)) there)
+  further j v h =
+      let f = v.fits in
+      let k = wanted-length v.most in
+      let l = there-length v.fits in
+      let z : at + suc j ≡ at + 1 + j = omega arith in
+      v.rest ∙ same_next wanted there (suc j) (omega arith) (omega arith) ∙ rw (there-at (suc j) (omega arith), z, get_or-take n progress j 0 h)
+
+  pub alike-off : (j : ℕ) → Alike j → j < n → (get_or area (at + 1 + j) 0 ≡ get_or progress j 0 → ⊥) → false ≡ same_list wanted there
+  alike-off j v h d = sym (further j v h ∙ rw (ne_eqb (get_or progress j 0) (get_or area (at + 1 + j) 0) (λ q. d (sym q))))
+
+  pub alike-step : (j : ℕ) → Alike j → j < n → get_or area (at + 1 + j) 0 ≡ get_or progress j 0 → Alike (j + 1)
+  alike-step j v h d = record {
+    few = omega arith;
+    most = v.most;
+    fits = v.fits;
+    rest = further j v h ∙ rw (eq-eqb (get_or progress j 0) (get_or area (at + 1 + j) 0) (sym d), add-one j);
+  }
+
+  pub alike_end : (j : ℕ) → Alike j → n ≤ j → true ≡ same_list wanted there
+  alike_end j v h =
+      let a = v.few in
+      let k = wanted-length v.most in
+      let l = there-length v.fits in
+      sym (v.rest ∙ same_end wanted there (suc j) (omega arith) (omega arith))
+
+pub ruleset alike = (alike-never, alike-start, alike-off, alike-step, alike_end)
 
 -- ── among the first records ─────────────────────────────────────────────────
 

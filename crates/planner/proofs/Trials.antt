@@ -188,12 +188,12 @@ module _ (rows : Rows) (at : Search) (choice : Choice) (table area : List ℕ) (
     adds-idle q mark free u w e g i =
         rw (R.tries, add-one at.slot, on-is, i) (add-idle (row_tasks rows) rows.count count few start long waits urgent stay going (sym eight) A (first-is None no) R.choices (eqb-true urgent 256 (sym u ∙ w)) (seen-is q false e g))
 
-    pub spent_seen : (q : Bool) → q ≡ among (rows.count + 1) area ((at.slot + 1) ∷ take rows.count on) at.recorded → q ≡ true
-        → Tries (row_tasks rows) (machine_of rows.count at table area) (machine_of rows.count (record { slot = at.slot; progress = at.progress; choice = None; recorded = at.recorded }) table area)
+    pub spent_seen : (was : List ℕ) → take rows.count was ≡ take rows.count at.progress → (q : Bool) → q ≡ among (rows.count + 1) area ((at.slot + 1) ∷ take rows.count on) at.recorded → q ≡ true
+        → Tries (row_tasks rows) (machine_of rows.count at table area) (machine_of rows.count (record { slot = at.slot; progress = was; choice = None; recorded = at.recorded }) table area)
     unfolding machine_of
-    spent_seen q e g = rw R.tries (idle-seen (row_tasks rows) rows.count count few start long waits urgent stay going (sym eight) A (first-is None no) R.choices (seen-is q true e g))
+    spent_seen was same q e g = rw (R.tries, same) (idle-seen (row_tasks rows) rows.count count few start long waits urgent stay going (sym eight) A (first-is None no) R.choices (seen-is q true e g))
 
-    pub spent-urgent : (free : Bool) → free ≡ eqb urgent 256 → free ≡ false
-        → Tries (row_tasks rows) (machine_of rows.count at table area) (machine_of rows.count (record { slot = at.slot; progress = at.progress; choice = None; recorded = at.recorded }) table area)
+    pub spent-urgent : (was : List ℕ) → take rows.count was ≡ take rows.count at.progress → (free : Bool) → free ≡ eqb urgent 256 → free ≡ false
+        → Tries (row_tasks rows) (machine_of rows.count at table area) (machine_of rows.count (record { slot = at.slot; progress = was; choice = None; recorded = at.recorded }) table area)
     unfolding machine_of
-    spent-urgent free u w = rw R.tries (idle-not (row_tasks rows) rows.count count few start long waits urgent stay going (sym eight) A (first-is None no) R.choices (eqb-false urgent 256 (sym u ∙ w)))
+    spent-urgent was same free u w = rw (R.tries, same) (idle-not (row_tasks rows) rows.count count few start long waits urgent stay going (sym eight) A (first-is None no) R.choices (eqb-false urgent 256 (sym u ∙ w)))

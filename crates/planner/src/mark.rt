@@ -22,17 +22,16 @@ fn at_end(task: &Timed, slot: u16, progress: u16) -> u16
 }
 
 // The progress before a slot, from that at the start of the next one, `slot`, and the slot's mark.
-pub(crate) fn take_back(rows: &Rows, slot: u16, after: [u16; 8], mark: u8) -> [u16; 8]
-    ensures { take rows.now.count result ≡ lowered mark (each (unstarted slot) 0 (row_tasks rows.now) (take rows.now.count after)) }
+// (In place: a new array is copied whole, and waits for the writes just before it.)
+pub(crate) fn take_back(rows: &Rows, slot: u16, progress: &mut [u16; 8], mark: u8)
+    ensures { take rows.now.count progress.new ≡ lowered mark (each (unstarted slot) 0 (row_tasks rows.now) (take rows.now.count progress.old)) }
 {
-    let mut before = [0; 8];
     let mut bits = mark;
     for (i, task) in rows.in_use().iter().enumerate() {
-        let end = at_end(task, slot, after[i]);
-        before[i] = end.saturating_sub((bits % 2) as u16);
+        let end = at_end(task, slot, progress[i]);
+        progress[i] = end.saturating_sub((bits % 2) as u16);
         bits /= 2;
     }
-    before
 }
 
 // The lowest bit is set, and the task was ready.

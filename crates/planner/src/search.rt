@@ -95,9 +95,9 @@ fn lead_on(frame: Frame<'_>, at: &mut Search, choice: Choice, table: &mut [u8], 
     let rows = frame.rows;
     let n = rows.count;
     let slot = at.slot;
-    let before = at.progress;
+    let mut before = [0; 8];
     let mut go = [None; 8];
-    let ahead = look_ahead(rows, slot, &mut at.progress, &mut go);
+    let ahead = look_ahead(rows, slot, &mut at.progress, &mut before, &mut go);
     let task = first_task(
         n,
         choice,
@@ -132,8 +132,7 @@ fn record_dead(frame: Frame<'_>, at: &mut Search, table: &[u8], area: &mut [u16]
     let rows = frame.rows;
     let n = rows.count;
     let slot = at.slot;
-    let progress = at.progress;
-    put(area, at.recorded, n, slot, &progress);
+    put(area, at.recorded, n, slot, &at.progress);
     let recorded = at.recorded + 1;
     if slot == 0 {
         return Some(Answer {
@@ -143,14 +142,10 @@ fn record_dead(frame: Frame<'_>, at: &mut Search, table: &[u8], area: &mut [u16]
     }
     let last = slot - 1;
     let mark = table[last as usize];
-    let before = take_back(rows, slot, progress, mark);
-    let choice = choice_from(rows, &before, mark);
-    *at = Search {
-        slot: last,
-        progress: before,
-        choice: choice_behind(n, choice),
-        recorded,
-    };
+    take_back(rows, slot, &mut at.progress, mark);
+    at.slot = last;
+    at.choice = choice_behind(n, choice_from(rows, &at.progress, mark));
+    at.recorded = recorded;
     None
 }
 

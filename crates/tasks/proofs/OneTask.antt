@@ -132,6 +132,20 @@ module _ (τ : model.Task) (p : ℕ) where
   unfolding standing
   stands-waiting h e = (within-turns ready waiting τ.pattern p h).odd e
 
+-- the same, walked entry by entry: k are passed, and q is left of the progress
+module _ (τ : model.Task) (p k q : ℕ) (left : place_of τ.pattern p ≡ k + place_of (drop k τ.pattern) q) where
+  walked-here : k < length τ.pattern → q < get_or τ.pattern k 0 → place_of τ.pattern p ≡ k
+  walked-here h l = let z = place_here τ.pattern k h q l in omega arith
+
+  pub walked-ready : k < length τ.pattern → q < get_or τ.pattern k 0 → k % 2 ≡ 0 → ready ≡ standing τ p
+  walked-ready h l e = let y = walked-here h l in sym (stands-ready τ p (omega arith) (rw y e))
+
+  pub walked-waiting : k < length τ.pattern → q < get_or τ.pattern k 0 → k % 2 ≡ 1 → waiting ≡ standing τ p
+  walked-waiting h l e = let y = walked-here h l in sym (stands-waiting τ p (omega arith) (rw y e))
+
+  pub walked-done : length τ.pattern ≤ k → done ≡ standing τ p
+  walked-done h = let z = place_end τ.pattern k q h in sym (stands-done τ p (omega arith))
+
 -- ── progress that may rise ──────────────────────────────────────────────────
 
 -- seven bytes sum to 1,785 at most

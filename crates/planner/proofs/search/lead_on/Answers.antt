@@ -8,21 +8,21 @@ pub overflow_add-mark : goal.overflow_add-mark
 overflow_add-mark c =
     let f = c.first_task-task.ensures in
     record {
-      fits = mark-fits _ _ _ _ _ c.requires _ _ _ _ c.look_ahead-ahead.ensures _ f.first (search rules) (search rules) _ f.reached _ c.in-Some.is _ c.bit_of.ensures;
+      fits = mark-fits _ _ _ _ _ c.requires _ _ _ _ c.look_ahead-ahead.ensures.ahead _ f.first (search rules) (search rules) _ f.reached _ c.in-Some.is _ c.bit_of.ensures;
     }
 
 pub returns-in-None-2 : goal.returns-in-None-2
 returns-in-None-2 c =
     let f = c.first_task-task.ensures in
     elim c.if-is_nobody.branch [
-      | then-is_nobody+else-not-seen w ↦ spent_seen _ _ _ _ _ c.requires _ _ _ _ c.look_ahead-ahead.ensures _ f.first (search rules) (search rules) _ f.reached c.in-None.is _ w.seen.ensures (search rules)
-      | else-is_nobody w ↦ spent-urgent _ _ _ _ _ c.requires _ _ _ _ c.look_ahead-ahead.ensures _ f.first (search rules) (search rules) _ f.reached c.in-None.is _ c.is_nobody.ensures w.if-is_nobody.false
+      | then-is_nobody+else-not-seen w ↦ spent_seen _ _ _ _ _ c.requires _ _ _ _ c.look_ahead-ahead.ensures.ahead _ f.first (search rules) (search rules) _ f.reached c.in-None.is _ c.look_ahead-ahead.ensures.saved _ w.seen.ensures (search rules)
+      | else-is_nobody w ↦ spent-urgent _ _ _ _ _ c.requires _ _ _ _ c.look_ahead-ahead.ensures.ahead _ f.first (search rules) (search rules) _ f.reached c.in-None.is _ c.look_ahead-ahead.ensures.saved _ c.is_nobody.ensures w.if-is_nobody.false
     ]
 
 pub returns : goal.returns
 returns c =
     let f = c.first_task-task.ensures in
     elim c.match-task.branch [
-      | in-Some w ↦ adds-task _ _ _ _ _ c.requires _ _ _ _ c.look_ahead-ahead.ensures _ f.first (search rules) (search rules) _ f.reached _ w.in-Some.is _ _ w.bit_of.ensures w.mark-is
-      | in-None w ↦ adds-idle _ _ _ _ _ c.requires _ _ _ _ c.look_ahead-ahead.ensures _ f.first (search rules) (search rules) _ f.reached w.in-None.is _ _ _ w.is_nobody.ensures w.if-is_nobody.true w.seen.ensures (search rules) w.mark-is
+      | in-Some w ↦ adds-task _ _ _ _ _ c.requires _ _ _ _ c.look_ahead-ahead.ensures.ahead _ f.first (search rules) (search rules) _ f.reached _ w.in-Some.is _ _ w.bit_of.ensures w.mark-is
+      | in-None w ↦ adds-idle _ _ _ _ _ c.requires _ _ _ _ c.look_ahead-ahead.ensures.ahead _ f.first (search rules) (search rules) _ f.reached w.in-None.is _ _ _ w.is_nobody.ensures w.if-is_nobody.true w.seen.ensures (search rules) w.mark-is
     ]
