@@ -20,17 +20,12 @@ pub fn parts_fields(b: u8) -> bool
     b == b' '
 }
 
-// Where the first line ends, if a line feed ends it. (A loop by place, here and below: `position` counts beside its iterator, six steps a byte for five.)
-#[tactic(auto, using(crate::proofs::Tests::first_laws))]
+// Where the first line ends, if a line feed ends it.
+#[inline(never)]
 fn line_end(text: &[u8]) -> Option<usize>
     ensures { result ≡ position ends_line text.now }
 {
-    for (i, b) in text.iter().enumerate() {
-        if ends_line(*b) {
-            return Some(i);
-        }
-    }
-    None
+    text.iter().position(|b| ends_line(*b))
 }
 
 // The first line without its line feed, and what is behind it.
@@ -53,17 +48,11 @@ fn is_comment(line: &[u8]) -> bool
 }
 
 // Where the first field starts, if there is one.
-#[tactic(auto, using(crate::proofs::Tests::first_laws))]
 #[inline(never)]
 pub fn field_start(line: &[u8]) -> Option<usize>
     ensures { result ≡ position (λ b. not (parts_fields b)) line.now }
 {
-    for (i, b) in line.iter().enumerate() {
-        if !parts_fields(*b) {
-            return Some(i);
-        }
-    }
-    None
+    line.iter().position(|b| !parts_fields(*b))
 }
 
 // A line that says nothing: a comment, or only what parts fields.
