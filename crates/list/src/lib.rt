@@ -118,7 +118,7 @@ pub fn read(list: &[u8]) -> Result<TaskSet, Refused<'_>>
     Ok(finish(set)?)
 }
 
-// The refused line as it stands in the list, without its line feed; an empty part at the list's start where no line is refused.
+// The refused line as it stands in the list, without its line feed; an empty part where no line is refused.
 #[tactic(auto, using(crate::proofs::ByLines::shown_none))]
 pub fn refused_line(list: &[u8]) -> &[u8]
     ensures { result.now ≡ shown list.now (read_list list.now) }
