@@ -34,6 +34,11 @@ abbrev pub numbers_in : Option Numbers → Option (List ℕ)
 numbers_in None = None
 numbers_in (Some f) = Some (numbers_of f)
 
+-- the numbers that a call leaves, if it finds fields
+abbrev pub numbers_after : Option (Unit {0}) → Numbers → Option (List ℕ)
+numbers_after None f = None
+numbers_after (Some u) f = Some (numbers_of f)
+
 -- the numbers of some words, if each is a field and there are nine at most
 unfoldable pub fields_of : List (List ℕ) → Option (List ℕ)
 fields_of ws = cond (all_of is_field ws && leb (length ws) 9) (Some (map number ws)) None

@@ -1,7 +1,7 @@
 // The reader of task lists.
 #![tactic(auto)]
 
-ghost use Rattle.std.specs.Prelude.{List, [], ◌∷◌, ◌++◌, ◌≡◌, ◌<◌, IfErr, IfOk, Ok};
+ghost use Rattle.std.specs.Prelude.{List, [], ◌∷◌, ◌++◌, ◌≡◌, ◌<◌, IfErr, IfOk, OnOk, Ok};
 ghost use Rattle.rules.specs.Records.{TaskRecord};
 ghost use Rattle.tasks.specs.Refusals.{number_of};
 ghost use Rattle.tasks.specs.Views.{entry_of, record_of};
@@ -45,32 +45,31 @@ impl From<Refusal> for Refused<'_> {
     }
 }
 
-// The set that has read `rs`, with one task more.
+// One task more in the set that has read `rs`.
 #[tactic(auto, using(crate::proofs::Sets::set_more))]
-fn with_task(set: TaskSet, task: Task) -> TaskSet
-    requires { set.count < MOST_TASKS }
-    ensures { (rs : List TaskRecord) → record_of set ≡ (accepted rs).set → record_of result ≡ (accepted (rs ++ entry_of task ∷ [])).set }
+fn add_task(set: &mut TaskSet, task: Task)
+    requires { set.old.count < MOST_TASKS }
+    ensures { (rs : List TaskRecord) → record_of set.old ≡ (accepted rs).set → record_of set.new ≡ (accepted (rs ++ entry_of task ∷ [])).set }
 {
-    let mut more = set;
-    more.tasks[usize::from(set.count)] = task;
-    more.count += 1;
-    more
+    set.tasks[usize::from(set.count)] = task;
+    set.count += 1;
 }
 
 // A line, after the set that has read `rs`. A ninth task is 5 whatever its line holds.
 #[tactic(auto, using(crate::proofs::Sets::set_laws))]
-fn after_line(set: TaskSet, line: &[u8]) -> Result<TaskSet, Refusal>
-    ensures good { (rs : List TaskRecord) → record_of set ≡ (accepted rs).set → IfOk result (λ more. (refusal_after rs line.now ≡ 0) × (record_of more ≡ (accepted (tasks_after rs line.now)).set)) }
-    ensures refused { (rs : List TaskRecord) → record_of set ≡ (accepted rs).set → IfErr result (λ refusal. refusal_after rs line.now ≡ number_of refusal) }
+fn after_line(set: &mut TaskSet, line: &[u8]) -> Result<(), Refusal>
+    ensures good { (rs : List TaskRecord) → record_of set.old ≡ (accepted rs).set → OnOk result ((refusal_after rs line.now ≡ 0) × (record_of set.new ≡ (accepted (tasks_after rs line.now)).set)) }
+    ensures refused { (rs : List TaskRecord) → record_of set.old ≡ (accepted rs).set → IfErr result (λ refusal. refusal_after rs line.now ≡ number_of refusal) }
 {
     if is_skipped(line) {
-        return Ok(set);
+        return Ok(());
     }
     if MOST_TASKS <= set.count {
         return Err(Refusal::TaskCount);
     }
     let task = line_task(line)?;
-    Ok(with_task(set, task))
+    add_task(set, task);
+    Ok(())
 }
 
 // The end of a list, after the set that has read `rs`: 5 if there is no task, 6 by the hyper-period.
@@ -105,24 +104,21 @@ pub fn read(list: &[u8]) -> Result<TaskSet, Refused<'_>>
         let start = list.len() - rest.len();
         let (text, behind) = first_line(rest);
         // (No `map_err` and `?`: the closure's clause stays folded in the loop's goals.)
-        set = match after_line(set, text) {
-            Ok(more) => more,
-            Err(why) => {
-                return Err(Refused {
-                    why,
-                    line,
-                    start,
-                    text,
-                });
-            }
-        };
+        if let Err(why) = after_line(&mut set, text) {
+            return Err(Refused {
+                why,
+                line,
+                start,
+                text,
+            });
+        }
         line += 1;
         rest = behind;
     }
     Ok(finish(set)?)
 }
 
-// The refused line as it stands in the list, without its line feed; an empty part at the list's start where no line is refused.
+// The refused line as it stands in the list, without its line feed; an empty part where no line is refused.
 #[tactic(auto, using(crate::proofs::ByLines::shown_none))]
 pub fn refused_line(list: &[u8]) -> &[u8]
     ensures { result.now ≡ shown list.now (read_list list.now) }

@@ -50,7 +50,7 @@ pub struct Numbers {
 }
 
 impl Numbers {
-    ghost use Rattle.list.specs.Inner.{numbers_in, numbers_of, one_more};
+    ghost use Rattle.list.specs.Inner.{numbers_after, numbers_of, one_more};
 
     // No number yet.
     pub fn new() -> Numbers
@@ -69,16 +69,15 @@ impl Numbers {
         &self.values[..self.count]
     }
 
-    // With one number more, if it is no tenth one.
-    pub fn with(self, value: u16) -> Option<Numbers>
-        ensures { numbers_in result ≡ one_more (numbers_of self) value }
+    // One number more, if it is no tenth one.
+    pub fn push(&mut self, value: u16) -> Option<()>
+        ensures { numbers_after result self.new ≡ one_more (numbers_of self.old) value }
     {
         if self.count == MOST_FIELDS {
             return None;
         }
-        let mut more = self;
-        more.values[self.count] = value;
-        more.count += 1;
-        Some(more)
+        self.values[self.count] = value;
+        self.count += 1;
+        Some(())
     }
 }

@@ -20,11 +20,17 @@ pub fn parts_fields(b: u8) -> bool
     b == b' '
 }
 
-// Where the first line ends, if a line feed ends it.
+// Where the first line ends, if a line feed ends it. (By place: inlined, `position` keeps a count beside its iterator, and a byte takes up to twice the time.)
+#[tactic(auto, using(crate::proofs::Tests::first_laws))]
 fn line_end(text: &[u8]) -> Option<usize>
     ensures { result ≡ position ends_line text.now }
 {
-    text.iter().position(|b| ends_line(*b))
+    for (i, b) in text.iter().enumerate() {
+        if ends_line(*b) {
+            return Some(i);
+        }
+    }
+    None
 }
 
 // The first line without its line feed, and what is behind it.
@@ -46,7 +52,8 @@ fn is_comment(line: &[u8]) -> bool
     matches!(line, [b'#', ..])
 }
 
-// Where the first field starts, if there is one.
+// Where the first field starts, if there is one. (Not inlined: alone, `position` keeps the place and no more.)
+#[inline(never)]
 pub fn field_start(line: &[u8]) -> Option<usize>
     ensures { result ≡ position (λ b. not (parts_fields b)) line.now }
 {

@@ -1,10 +1,11 @@
 -- Bytes put after bytes.
 use mathlib.Core.Path.{◌≡◌, refl, sym, ap, ap₂, ◌∙◌}
 use mathlib.Core.List.{List, [], ◌∷◌, ◌++◌, append_assoc, append-nil}
-use Prim.Native.Nat.{ℕ, zero, suc, ◌+◌, ◌-◌, ◌≤◌}
+use Prim.Native.Nat.{ℕ, zero, suc, ◌+◌, ◌-◌, ◌≤◌, ◌<◌}
 use native.Mathlib.Omega.{arith}
-use lib.ListN.{length, take, drop, length-append, length-drop, take-append-drop}
-use lib.Seq.{length-take-le, take-nil, take_at, drop-append-add, drop-drop, take_all}
+use native.Mathlib.Numerals.{add-one}
+use lib.ListN.{length, take, drop, set, length-append, length-drop, take-append-drop}
+use lib.Seq.{length-take-le, take-nil, set_split, append_snoc, take_at, drop-append-add, drop-drop, take_all}
 use Rattle.report.specs.Put.{Put, PutCut}
 
 -- nothing more
@@ -13,6 +14,14 @@ put-none o at h = record {
   text = let e : at + 0 ≡ at = omega arith in sym (rw (append-nil (take at o), e) (take-append-drop at o));
   behind = omega arith;
   within = h;
+}
+
+-- one byte
+put-single : (o : List ℕ) (at b : ℕ) → at < length o → Put o at (b ∷ []) (at + 1) (set o at b)
+put-single o at b h = record {
+  text = set_split o at b h ∙ sym (append_snoc (take at o) b (drop (suc at) o)) ∙ ap (λ k. take at o ++ (b ∷ []) ++ drop k o) (sym (add-one at));
+  behind = refl;
+  within = omega arith;
 }
 
 module _ {o : List ℕ} {at : ℕ} {xs : List ℕ} {r : ℕ} {p : List ℕ} (P : Put o at xs r p) where
@@ -69,6 +78,16 @@ cut-more {o = o} {at = at} xs {r = r} {p = p} ys C D =
 pub cut-none : (o : List ℕ) (at : ℕ) → at ≤ length o → PutCut o at [] at o
 cut-none o at h = record { put = rw (take-nil (length o - at)) (put-none o at h) }
 
+-- one byte, if there is room
+pub cut-single : (o : List ℕ) (at b : ℕ) → at < length o → PutCut o at (b ∷ []) (at + 1) (set o at b)
+cut-single o at b h = record { put = rw (take_all (length o - at) (b ∷ []) (omega arith)) (put-single o at b h) }
+
+pub cut-full : (o : List ℕ) (at : ℕ) (xs : List ℕ) → at ≤ length o → length o ≤ at → PutCut o at xs at o
+cut-full o at xs h k = let e : length o - at ≡ 0 = omega arith in record { put = rw e (put-none o at h) }
+
 -- with room for all, all stands
 pub cut-whole : {o : List ℕ} {at : ℕ} {xs : List ℕ} {r : ℕ} {p : List ℕ} → length xs ≤ length o - at → PutCut o at xs r p → Put o at xs r p
 cut-whole {o = o} {at = at} {xs = xs} h C = rw (take_all (length o - at) xs h) at C.put
+
+-- what a byte does
+pub ruleset byte_laws = (cut-single, cut-full)

@@ -36,11 +36,15 @@ impl<'a> Text<'a> {
         self.end = end;
     }
 
-    // One byte.
+    #[tactic(auto, using(crate::proofs::Put::byte_laws))]
+    // One byte, if there is room. (A store: a word is copied by a call, which for each byte of a schedule costs more than its slot.)
     pub fn byte(&mut self, byte: u8)
         ensures { Adds self.old (byte ∷ []) self.new }
     {
-        self.word(&[byte]);
+        if self.end < self.out.len() {
+            self.out[self.end] = byte;
+            self.end += 1;
+        }
     }
 
     #[tactic(auto, using(crate::proofs::Numbers::number_laws))]

@@ -27,8 +27,8 @@ returns-in-Err-clause-text c =
 pub loop-rest-preserved : goal.loop-rest-preserved
 loop-rest-preserved c =
     let p = c.loop-rest.invariant in
-    let g = c.in-Ok.ensures.good p.tasks p.holds in
-    line_passes c.args.list.now c.loop-rest.set c.loop-rest.line c.loop-rest.rest.now p _ _ c.first_line.ensures (some c.is_empty.ensures c.loop-rest-test.true) c.in-Ok.more g.0 g.1
+    let g = c.in_default.ensures.good p.tasks p.holds in
+    line_passes c.args.list.now c.loop-rest.set c.loop-rest.line c.loop-rest.rest.now p _ _ c.first_line.ensures (some c.is_empty.ensures c.loop-rest-test.true) c.after_line.new.set g.0 g.1
 
 pub returns-in_err-finish-clause-reply : goal.returns-in_err-finish-clause-reply
 returns-in_err-finish-clause-reply c =

@@ -3,10 +3,10 @@ use Rattle.std.proofs.Common.{[], ◌∷◌, ◌++◌, get_or, length-append, sy
 use Rattle.list.proofs.Reader.{field_put, field_parted, field_bad, field_on, gap_on}
 use Rattle.list.proofs.fields.+field_gap.Goals as goal
 
-pub field-returns-in_ok-with-in-len1-up : goal.field-returns-in_ok-with-in-len1-up
-field-returns-in_ok-with-in-len1-up t c = λ ws p e b s.
+pub field-returns-in_ok-push-in-len1-up : goal.field-returns-in_ok-push-in-len1-up
+field-returns-in_ok-push-in-len1-up t c = λ ws p e b s.
     let a = c.args in
-    c.gap.ensures (ws ++ p ∷ []) (c.in_ok-with-in-len1-up.ensures ∙ field_put _ ws p a.digits e b s a.line.now)
+    c.gap.ensures (ws ++ p ∷ []) (c.in_ok-push-in-len1-up.ensures ∙ field_put _ ws p a.digits e b s a.line.now)
     ∙ field_parted _ ws p a.digits e b s a.line.now c.in-len1-up.len_at_least (sym c.parts_fields.ensures ∙ c.if-parts_fields.true)
 
 pub field-returns-in_err-with-in-len1-up-2 : goal.field-returns-in_err-with-in-len1-up-2
