@@ -44,7 +44,7 @@ module _ (st : State) (table reports : List ℕ) where
   refused-form e = refused BadState 9 refl (rw e)
 
   -- the state has the form
-  module _ (f : Formed) (ef : f.state ≡ st) where
+  module _ (f : Formed) (ef : f.state.now ≡ st) where
     abbrev h : ℕ
     h = f.hyper
 
@@ -110,8 +110,8 @@ module _ (st : State) (table reports : List ℕ) where
             abbrev rules_tick : State → rules.Ticked
             rules_tick st = tick (set_of st.set) table (in_use (state_of st)) reports
 
-            pub accepted : (slot : ℕ) → slot ≡ suc st.slot % h → (js : List Job) → jobs_of js ≡ padded 8 blank_job (rules_tick f.state).state.jobs
-                → (fs : List (Option Cause)) → faults_of fs ≡ padded 8 0 (rules_tick f.state).faults → (r : Option ℕ) → runner_number r ≡ (rules_tick f.state).runner
+            pub accepted : (slot : ℕ) → slot ≡ suc st.slot % h → (js : List Job) → jobs_of js ≡ padded 8 blank_job (rules_tick f.state.now).state.jobs
+                → (fs : List (Option Cause)) → faults_of fs ≡ padded 8 0 (rules_tick f.state.now).faults → (r : Option ℕ) → runner_number r ≡ (rules_tick f.state.now).runner
                 → ticked_of (state_of st) (Ok (record { runner = r; faults = fs; state = record { set = st.set; slot = slot; planned = ps; jobs = js; last = r } })) ≡ asked
             unfolding ticked_of tick_answer tick state_of as_record in_use
             accepted slot es js xj fs xf r xr = shown ∙ ap (tick_answer (state_of st)) (sym reply-is)

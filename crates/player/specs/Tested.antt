@@ -9,4 +9,4 @@ use Rattle.player.specs.Views.{state_of}
 
 -- a state of the form is kept as it is, and any other is refused
 abbrev pub Tests : State → Result Formed Refusal → Type 0
-Tests st made = MatchResult made (λ formed. formed.state ≡ st) (λ refusal. (refusal ≡ BadState) × (form (state_of st) ≡ false))
+Tests st made = MatchResult made (λ formed. formed.state.now ≡ st) (λ refusal. (refusal ≡ BadState) × (form (state_of st) ≡ false))

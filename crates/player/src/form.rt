@@ -15,11 +15,11 @@ use tasks::{IDLE, Refusal, Task};
 
 // A state of the form, with its set's hyper-period. The test below alone makes it.
 #[derive(Clone, Copy, Debug, PartialEq, Eq)]
-pub struct Formed {
-    pub state: State,
+pub struct Formed<'a> {
+    pub state: &'a State,
     pub hyper: u16,
-    pub ghost formed: { T (form (state_of state)) },
-    pub ghost period: { hyper ≡ rules.hyper (set_in (state_of state).set) },
+    pub ghost formed: { T (form (state_of state.now)) },
+    pub ghost period: { hyper ≡ rules.hyper (set_in (state_of state.now).set) },
 }
 
 // A task's planned progress: at most L, 0 where its job starts, and in time.
@@ -150,19 +150,19 @@ fn parts_fit(state: &State) -> bool
 
 // The test of the form: an admissible task set, a live planned position with progress 0 where the period divides the slot, jobs within their
 // patterns, the last runner none or a ready task with a slot given, and zeros in the parts not in use.
-impl TryFrom<State> for Formed {
+impl<'a> TryFrom<&'a State> for Formed<'a> {
     type Error = Refusal;
 
     ghost use Rattle.player.specs.Tested.{Tests};
 
-    ghost try_from_gives = { Tests };
+    ghost try_from_gives = { λ state made. Tests state.now made };
 
     #[tactic(auto, using(crate::proofs::Forms::wholes))]
-    fn try_from(state: State) -> Result<Self, Refusal> {
+    fn try_from(state: &'a State) -> Result<Self, Refusal> {
         let Ok(hyper) = state.set.admit() else {
             return Err(Refusal::BadState);
         };
-        if state.slot < hyper && parts_fit(&state) {
+        if state.slot < hyper && parts_fit(state) {
             Ok(Formed { state, hyper })
         } else {
             Err(Refusal::BadState)
