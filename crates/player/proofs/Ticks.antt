@@ -29,7 +29,6 @@ use Rattle.player.specs.Answers.{TickAnswer, tick_answer, ticked_of}
 use Rattle.player.proofs.Views.{eight-same}
 use Rattle.player.proofs.Starts.{onward-length}
 use Rattle.player.proofs.InForm.{tasks-are, slot-below}
-use Rattle.std.proofs.lemmas.List.{get_or_default}
 
 module _ (st : State) (table reports : List ℕ) where
   abbrev asked : TickAnswer
@@ -82,24 +81,20 @@ module _ (st : State) (table reports : List ℕ) where
         unfolding in_use state_of record_of position_of progress_of
         place-same = ap (λ ps. record { slot = st.slot; progress = ps }) (rw (eight-same st.planned eights, tasks-are st ok))
 
-        entry-same : get_or table st.slot idle ≡ get_or table st.slot 0
-        entry-same = get_or_default table st.slot idle 0 (let b = slot-in in omega arith)
-
-        fits-same : entry_fits (set_of st.set) (in_use (state_of st)) table ≡ legal (set_of st.set) (position_of st.set st.slot st.planned) (get_or table st.slot 0)
+        fits-same : entry_fits (set_of st.set) (in_use (state_of st)) table ≡ legal (set_of st.set) (position_of st.set st.slot st.planned) (get_or table st.slot idle)
         unfolding entry_fits in_use state_of
-        fits-same = rw (eq-eqb (length table) (hyper (set_of st.set)) (long ∙ period)) (rw (entry-same) (ap (λ x. legal (set_of st.set) x (get_or table st.slot 0)) place-same))
+        fits-same = rw (eq-eqb (length table) (hyper (set_of st.set)) (long ∙ period)) (ap (λ x. legal (set_of st.set) x (get_or table st.slot idle)) place-same)
 
-        module _ (g : Bool) (eg : g ≡ legal (set_of st.set) (position_of st.set st.slot st.planned) (get_or table st.slot 0)) where
+        module _ (g : Bool) (eg : g ≡ legal (set_of st.set) (position_of st.set st.slot st.planned) (get_or table st.slot idle)) where
           pub refused-entry : g ≡ false → ticked_of (state_of st) (Err BadTable) ≡ asked
           refused-entry q = refused-entry_fits (fits-same ∙ sym eg ∙ q)
 
-          module _ (q : g ≡ true) (ps : List ℕ) (eps : ps ≡ array_of (next (set_of st.set) (position_of st.set st.slot st.planned) (get_or table st.slot 0)).progress) where
+          module _ (q : g ≡ true) (ps : List ℕ) (eps : ps ≡ array_of (next (set_of st.set) (position_of st.set st.slot st.planned) (get_or table st.slot idle)).progress) where
             planned-is : eight ps ≡ padded 8 0 (next (set_of st.set) (record { slot = st.slot; progress = (in_use (state_of st)).planned }) (get_or table st.slot idle)).progress
             unfolding array_of
             planned-is =
-                eight-same ps (onward-length st.set st.slot st.planned (get_or table st.slot 0) eights ps eps) ∙ eps
-                ∙ ap (λ x. padded 8 0 (next (set_of st.set) x (get_or table st.slot 0)).progress) (sym place-same)
-                ∙ ap (λ c. padded 8 0 (next (set_of st.set) (record { slot = st.slot; progress = (in_use (state_of st)).planned }) c).progress) (sym entry-same)
+                eight-same ps (onward-length st.set st.slot st.planned (get_or table st.slot idle) eights ps eps) ∙ eps
+                ∙ ap (λ x. padded 8 0 (next (set_of st.set) x (get_or table st.slot idle)).progress) (sym place-same)
 
             reply-is : tick_reply (state_of st) table reports true
                 ≡ ticked (tick (set_of st.set) table (in_use (state_of st)) reports).runner (tick (set_of st.set) table (in_use (state_of st)) reports).faults

@@ -1,7 +1,7 @@
 // The player: it follows a table slot by slot. A state goes in by value and comes back by value.
 #![tactic(auto)]
 
-use tasks::{Position, Refusal, TaskSet};
+use tasks::{IDLE, Refusal, TaskSet};
 
 pub mod begin;
 pub mod codec;
@@ -10,7 +10,8 @@ pub mod round;
 pub mod strings;
 pub mod turn;
 
-ghost use Rattle.std.specs.Prelude.{◌≡◌, IfErr, IfOk, None, true};
+ghost use Rattle.std.specs.Prelude.{◌≡◌, IfErr, IfOk, None, get_or, true};
+ghost use Rattle.rules.specs.Positions.{idle};
 ghost use Rattle.rules.specs.States.{start_reply, tick_reply};
 ghost use Rattle.tasks.specs.Views.{record_of};
 ghost use Rattle.player.specs.Views.{IsTask, state_of};
@@ -85,6 +86,14 @@ pub fn start(set: &TaskSet, table: &[u8]) -> Result<State, Refusal>
     Ok(fresh_state(set))
 }
 
+// The table's entry at a slot; idle beyond its end.
+#[tactic(auto, unfolding(rules::specs::Positions::idle))]
+fn entry_at(table: &[u8], slot: u16) -> u8
+    ensures { result ≡ get_or table.now slot idle }
+{
+    table.get(usize::from(slot)).map_or(IDLE, |entry| *entry)
+}
+
 impl State {
     // A tick in place: 10 for a state not of the form, 11 for another number of reports, 12 for a table of another length or an entry that isn't an
     // allowed choice to a live position. A refused tick leaves the state.
@@ -93,18 +102,14 @@ impl State {
         ensures kept { IfErr result (λ _. self.new ≡ self.old) }
         ensures task { IfOk result (λ told. IsTask told.runner × (self.new.last ≡ told.runner)) }
     {
-        let formed = Formed::try_from(&*self)?;
+        let (formed, onward) = Formed::test(&*self, entry_at(table, self.slot))?;
+        let Onward { legal, progress } = onward;
         if reports.len() != usize::from(self.set.count) {
             return Err(Refusal::ReportCount);
         }
         if table.len() != usize::from(formed.hyper) {
             return Err(Refusal::BadTable);
         }
-        let at = Position {
-            slot: self.slot,
-            progress: self.planned,
-        };
-        let Onward { legal, progress } = self.set.advance(&at, table[usize::from(self.slot)]);
         if !legal {
             return Err(Refusal::BadTable);
         }
