@@ -67,14 +67,7 @@ fn is_tidy(task: &Task) -> bool
 
 // A task in use, its planned progress and its job.
 #[tactic(auto, unfolding(tasks::specs::Views::task_of))]
-fn task_fits(
-    task: &Task,
-    timed: &Timed,
-    slot: u16,
-    progress: u16,
-    ran: bool,
-    job: &Job,
-) -> bool
+fn task_fits(task: &Task, timed: &Timed, slot: u16, progress: u16, ran: bool, job: &Job) -> bool
     requires { timed_task timed.now ≡ task_of task.now }
     ensures { result ≡ task_fits slot (entry_of task.now) progress ran (job_of job.now) }
 {

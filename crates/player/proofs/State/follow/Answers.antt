@@ -30,5 +30,9 @@ returns c =
     let long : length c.args.self.now.planned ≡ 8 = search rules in
     let leads = rw (c.entry_at.ensures) at c.in_ok-formed.ensures.1.leads in
     let lands = rw (c.entry_at.ensures) at c.in_ok-formed.ensures.1.lands in
-    record { reply = accepted _ _ _ c.in_ok-formed.formed c.in_ok-formed.ensures.0 (c.if-reports-from.false ∙ c.from.ensures) (c.if-table-from.false ∙ c.from-2.ensures) long _ leads c.if-not-legal.false _ lands
-    _ c.slot_after-slot.ensures _ c.turns-runner.ensures.jobs _ c.turns-runner.ensures.faults _ c.turns-runner.ensures.runner; kept = tt; task = (c.turns-runner.ensures.task, refl) }
+    record {
+      reply = accepted _ _ _ c.in_ok-formed.formed c.in_ok-formed.ensures.0 (c.if-reports-from.false ∙ c.from.ensures) (c.if-table-from.false ∙ c.from-2.ensures) long _ leads c.if-not-legal.false _ lands
+          _ c.slot_after-slot.ensures _ c.turns-runner.ensures.jobs _ c.turns-runner.ensures.faults _ c.turns-runner.ensures.runner;
+      kept = tt;
+      task = (c.turns-runner.ensures.task, refl);
+    }
