@@ -1,6 +1,6 @@
 -- The form of a state, test by test, as the code makes them.
 use Rattle.std.proofs.Common.{◌≡◌, ◌≤◌, ◌<◌, ◌+◌, ◌-◌, ◌%◌, ◌==◌, ◌⊎◌, inl, inr, ℕ, suc, zero, List, [], ◌∷◌, Bool, true, false, not, eqb, leb, ltb, ◌&&◌, ◌||◌, T, length, map, get_or, take, drop, arith, sym, ap, refl, ◌∙◌, add-one, drop-cons}
-use borrow.Author.Tests.{ne_eqb, eq-eqb, lt-ltb}
+use borrow.Author.Tests.{ne_eqb, eq-eqb, lt-ltb, le-ltb}
 use lib.ListN.{length-drop}
 use lib.Seq.{ext_get_or, length-take-le, take_all}
 use Rattle.std.specs.List.{list_all}
@@ -26,7 +26,7 @@ use Rattle.tasks.proofs.Slotwise.{and-swap}
 use Rattle.tasks.proofs.Refusals.{number-some}
 use Rattle.player.specs.declared.State.{State}
 use Rattle.player.specs.Views.{job_of, no_job, eight, jobs_of, runner_number, state_of}
-use Rattle.player.specs.Forms.{plan_fits, task_fits, tasks_fit, rest_fits, parts_fit}
+use Rattle.player.specs.Forms.{plan_fits, task_fits, tasks_fit, rest_fits, others_fit, parts_fit}
 use Rattle.player.proofs.Views.{mapped, eight-length, jobs-length, plan-at, job-at}
 
 -- ── lists ───────────────────────────────────────────────────────────────────
@@ -205,9 +205,9 @@ module _ (st : State) (jobs : length st.jobs ≡ 8) where
       let l : length (take n st.jobs) ≡ n = length-take-le n st.jobs (omega arith) in
       rw (mapped job_of st.jobs no_job 8 jobs, take-map job_of st.set.count st.jobs, upto st.set st.jobs jobs, l) refl
 
-  pub parts-is : parts_fit (state_of st) ≡ tasks_fit (state_of st) 0 && (last_form (length (take n st.jobs)) (runner_number st.last) (map job_of (take n st.jobs)) && rest_fits (state_of st))
-  unfolding parts_fit
-  parts-is = rw last-is refl
+  pub others-is : others_fit (state_of st) ≡ last_form (length (take n st.jobs)) (runner_number st.last) (map job_of (take n st.jobs)) && rest_fits (state_of st)
+  unfolding others_fit
+  others-is = rw last-is refl
 
 regroup : (h p j l u x y z : Bool) → ((h && p) && (j && l)) && ((u && x) && (y && z)) ≡ h && ((p && (j && u)) && (l && (x && (y && z))))
 regroup false p j l u x y z = refl
@@ -224,7 +224,7 @@ module _ (st : State) where
   form-refused h = rw (ne_eqb (record_refusal (record_of st.set)) 0 h) refl
 
   pub form-is : record_refusal (record_of st.set) ≡ 0 → form (state_of st) ≡ ltb st.slot (hyper (set_of st.set)) && parts_fit (state_of st)
-  unfolding form in_use_form rest_zero parts_fit rest_fits tasks_fit state_of set_of in_use
+  unfolding form in_use_form rest_zero parts_fit others_fit rest_fits tasks_fit state_of set_of in_use
   form-is e =
       let r = record_of st.set in
       let s = set_in r in
@@ -235,13 +235,25 @@ module _ (st : State) where
       (regroup (ltb st.slot (hyper s)) (planned_form s st.slot ps) (jobs_form last 0 s js) (last_form (length s) last js) (all_of units_tidy (used r))
       (all_of is_blank_task (drop r.count r.entries)) (all_of is_zero (drop r.count (eight st.planned))) (all_of is_blank_job (drop r.count (jobs_of st.jobs))))
 
-  pub has-form : record_refusal (record_of st.set) ≡ 0 → st.slot < hyper (set_of st.set) → parts_fit (state_of st) ≡ true → T (form (state_of st))
-  has-form e h p = true-T (form (state_of st)) (form-is e ∙ rw (lt-ltb st.slot (hyper (set_of st.set)) h, p) refl)
+  pub has-form : record_refusal (record_of st.set) ≡ 0 → st.slot < hyper (set_of st.set) → tasks_fit (state_of st) 0 ≡ true → others_fit (state_of st) ≡ true → T (form (state_of st))
+  unfolding parts_fit
+  has-form e h p q = true-T (form (state_of st)) (form-is e ∙ rw (lt-ltb st.slot (hyper (set_of st.set)) h, p, q) refl)
+
+  pub slot-late : record_refusal (record_of st.set) ≡ 0 → hyper (set_of st.set) ≤ st.slot → form (state_of st) ≡ false
+  slot-late e h = form-is e ∙ rw (le-ltb st.slot (hyper (set_of st.set)) h) refl
+
+  pub tasks-unfit : record_refusal (record_of st.set) ≡ 0 → st.slot < hyper (set_of st.set) → tasks_fit (state_of st) 0 ≡ false → form (state_of st) ≡ false
+  unfolding parts_fit
+  tasks-unfit e h p = form-is e ∙ rw (lt-ltb st.slot (hyper (set_of st.set)) h, p) refl
+
+  pub others-unfit : record_refusal (record_of st.set) ≡ 0 → st.slot < hyper (set_of st.set) → tasks_fit (state_of st) 0 ≡ true → others_fit (state_of st) ≡ false → form (state_of st) ≡ false
+  unfolding parts_fit
+  others-unfit e h p q = form-is e ∙ rw (lt-ltb st.slot (hyper (set_of st.set)) h, p, q) refl
 
   pub period-is : hyper (set_of st.set) ≡ hyper (set_in (state_of st).set)
   unfolding state_of set_of
   period-is = refl
 
-pub ruleset parts = (fit-few, rest-is, parts-is, in_use-length)
+pub ruleset parts = (fit-few, rest-is, others-is, in_use-length)
 
-pub ruleset wholes = (form-refused, form-is, has-form, period-is, number-some)
+pub ruleset wholes = (form-refused, slot-late, tasks-unfit, others-unfit, has-form, period-is, number-some)

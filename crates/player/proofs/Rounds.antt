@@ -25,7 +25,7 @@ use Rattle.player.specs.declared.Cause.{Cause}
 use Rattle.player.specs.declared.Job.{Job}
 use Rattle.player.specs.declared.State.{State}
 use Rattle.player.specs.Turns.{turn_for}
-use Rattle.player.specs.Views.{job_of, no_job, jobs_of, fault_number, faults_of, runner_number, state_of}
+use Rattle.player.specs.Views.{IsTask, job_of, no_job, jobs_of, fault_number, faults_of, runner_number, state_of}
 use Rattle.player.proofs.Arrays.{Made, made-start, made-step, made-end}
 use Rattle.player.proofs.InForm.{few, tasks-are}
 
@@ -103,12 +103,14 @@ module _ (st : State) (entry : ℕ) (reports : List ℕ) where
     pub made : Made 8 job_of no_job blank_job the_jobs i js
     pub told : Made 8 fault_number None 0 the_faults i fs
     pub runs : runner_number r ≡ runner entry ran_at not-owner i
+    pub task : IsTask r
 
   pub taken-start : (j : Job) → job_of j ≡ blank_job → Taken 0 (replicate 8 j) (replicate 8 None) None
   taken-start j e = record {
     made = made-start 8 job_of no_job blank_job the_jobs j e;
     told = made-start 8 fault_number None 0 the_faults None refl;
     runs = rw (le-ltb entry 0 (omega arith));
+    task = tt;
   }
 
   module _ (i : ℕ) (js : List Job) (fs : List (Option Cause)) (r : Option ℕ) (t : Taken i js fs r) (h : i < length reports) (few : length reports ≤ 8)
@@ -132,11 +134,22 @@ module _ (st : State) (entry : ℕ) (reports : List ℕ) where
         let z : 0 + i ≡ i = omega arith in
         made-step 8 fault_number None 0 the_faults i fs f t.told (omega arith) (ef ∙ sym (tabulate-at (λ i. (at i).fault) 0 (length reports) i 0 (omega arith) ∙ ap (λ i. (at i).fault) z))
 
+    -- only the owner runs
+    owns : b ≡ true → entry < 8
+    owns y = go (le-or-lt entry i) (le-or-lt i entry)
+      where
+        never : (entry ≡ i → ⊥) → entry < 8
+        never n = clash-bool (sym (not-owner i n) ∙ sym eb ∙ y)
+
+        go : (entry ≤ i) ⊎ (i < entry) → (i ≤ entry) ⊎ (entry < i) → entry < 8
+        go (inl l) k = omega arith
+        go (inr l) k = never (λ q. omega arith)
+
     pub taken-runs : b ≡ true → Taken (i + 1) (set js i j) (set fs i f) (Some entry)
-    taken-runs y = record { made = made-more; told = told-more; runs = runner-found entry ran_at not-owner i (sym eb ∙ y) }
+    taken-runs y = record { made = made-more; told = told-more; runs = runner-found entry ran_at not-owner i (sym eb ∙ y); task = owns y }
 
     pub taken-rests : b ≡ false → Taken (i + 1) (set js i j) (set fs i f) r
-    taken-rests y = record { made = made-more; told = told-more; runs = t.runs ∙ runner-next entry ran_at not-owner i (sym eb ∙ y) }
+    taken-rests y = record { made = made-more; told = told-more; runs = t.runs ∙ runner-next entry ran_at not-owner i (sym eb ∙ y); task = t.task }
 
 -- all are taken
 module _ (st : State) (table reports : List ℕ) (entry : ℕ) (ok : T (form (state_of st))) (within : st.slot < length table) (ee : entry ≡ get_or table st.slot 0) (counted : length reports ≡ st.set.count)

@@ -29,7 +29,6 @@ use Rattle.player.specs.Answers.{TickAnswer, tick_answer, ticked_of}
 use Rattle.player.proofs.Views.{eight-same}
 use Rattle.player.proofs.Starts.{onward-length}
 use Rattle.player.proofs.InForm.{tasks-are, slot-below}
-use Rattle.std.proofs.lemmas.List.{get_or_default}
 
 module _ (st : State) (table reports : List ℕ) where
   abbrev asked : TickAnswer
@@ -44,7 +43,7 @@ module _ (st : State) (table reports : List ℕ) where
   refused-form e = refused BadState 9 refl (rw e)
 
   -- the state has the form
-  module _ (f : Formed) (ef : f.state ≡ st) where
+  module _ (f : Formed) (ef : f.state.now ≡ st) where
     abbrev h : ℕ
     h = f.hyper
 
@@ -82,24 +81,20 @@ module _ (st : State) (table reports : List ℕ) where
         unfolding in_use state_of record_of position_of progress_of
         place-same = ap (λ ps. record { slot = st.slot; progress = ps }) (rw (eight-same st.planned eights, tasks-are st ok))
 
-        entry-same : get_or table st.slot idle ≡ get_or table st.slot 0
-        entry-same = get_or_default table st.slot idle 0 (let b = slot-in in omega arith)
-
-        fits-same : entry_fits (set_of st.set) (in_use (state_of st)) table ≡ legal (set_of st.set) (position_of st.set st.slot st.planned) (get_or table st.slot 0)
+        fits-same : entry_fits (set_of st.set) (in_use (state_of st)) table ≡ legal (set_of st.set) (position_of st.set st.slot st.planned) (get_or table st.slot idle)
         unfolding entry_fits in_use state_of
-        fits-same = rw (eq-eqb (length table) (hyper (set_of st.set)) (long ∙ period)) (rw (entry-same) (ap (λ x. legal (set_of st.set) x (get_or table st.slot 0)) place-same))
+        fits-same = rw (eq-eqb (length table) (hyper (set_of st.set)) (long ∙ period)) (ap (λ x. legal (set_of st.set) x (get_or table st.slot idle)) place-same)
 
-        module _ (g : Bool) (eg : g ≡ legal (set_of st.set) (position_of st.set st.slot st.planned) (get_or table st.slot 0)) where
+        module _ (g : Bool) (eg : g ≡ legal (set_of st.set) (position_of st.set st.slot st.planned) (get_or table st.slot idle)) where
           pub refused-entry : g ≡ false → ticked_of (state_of st) (Err BadTable) ≡ asked
           refused-entry q = refused-entry_fits (fits-same ∙ sym eg ∙ q)
 
-          module _ (q : g ≡ true) (ps : List ℕ) (eps : ps ≡ array_of (next (set_of st.set) (position_of st.set st.slot st.planned) (get_or table st.slot 0)).progress) where
+          module _ (q : g ≡ true) (ps : List ℕ) (eps : ps ≡ array_of (next (set_of st.set) (position_of st.set st.slot st.planned) (get_or table st.slot idle)).progress) where
             planned-is : eight ps ≡ padded 8 0 (next (set_of st.set) (record { slot = st.slot; progress = (in_use (state_of st)).planned }) (get_or table st.slot idle)).progress
             unfolding array_of
             planned-is =
-                eight-same ps (onward-length st.set st.slot st.planned (get_or table st.slot 0) eights ps eps) ∙ eps
-                ∙ ap (λ x. padded 8 0 (next (set_of st.set) x (get_or table st.slot 0)).progress) (sym place-same)
-                ∙ ap (λ c. padded 8 0 (next (set_of st.set) (record { slot = st.slot; progress = (in_use (state_of st)).planned }) c).progress) (sym entry-same)
+                eight-same ps (onward-length st.set st.slot st.planned (get_or table st.slot idle) eights ps eps) ∙ eps
+                ∙ ap (λ x. padded 8 0 (next (set_of st.set) x (get_or table st.slot idle)).progress) (sym place-same)
 
             reply-is : tick_reply (state_of st) table reports true
                 ≡ ticked (tick (set_of st.set) table (in_use (state_of st)) reports).runner (tick (set_of st.set) table (in_use (state_of st)) reports).faults
@@ -110,8 +105,8 @@ module _ (st : State) (table reports : List ℕ) where
             abbrev rules_tick : State → rules.Ticked
             rules_tick st = tick (set_of st.set) table (in_use (state_of st)) reports
 
-            pub accepted : (slot : ℕ) → slot ≡ suc st.slot % h → (js : List Job) → jobs_of js ≡ padded 8 blank_job (rules_tick f.state).state.jobs
-                → (fs : List (Option Cause)) → faults_of fs ≡ padded 8 0 (rules_tick f.state).faults → (r : Option ℕ) → runner_number r ≡ (rules_tick f.state).runner
+            pub accepted : (slot : ℕ) → slot ≡ suc st.slot % h → (js : List Job) → jobs_of js ≡ padded 8 blank_job (rules_tick f.state.now).state.jobs
+                → (fs : List (Option Cause)) → faults_of fs ≡ padded 8 0 (rules_tick f.state.now).faults → (r : Option ℕ) → runner_number r ≡ (rules_tick f.state.now).runner
                 → ticked_of (state_of st) (Ok (record { runner = r; faults = fs; state = record { set = st.set; slot = slot; planned = ps; jobs = js; last = r } })) ≡ asked
             unfolding ticked_of tick_answer tick state_of as_record in_use
             accepted slot es js xj fs xf r xr = shown ∙ ap (tick_answer (state_of st)) (sym reply-is)

@@ -7,6 +7,7 @@ use Rattle.tasks.specs.declared.refusal.Refusal.{Refusal}
 use Rattle.tasks.specs.Refusals.{number_of}
 use Rattle.player.specs.declared.State.{State}
 use Rattle.player.specs.declared.Ticked.{Ticked}
+use Rattle.player.specs.declared.Told.{Told}
 use Rattle.player.specs.Views.{state_of, faults_of, runner_number}
 
 pub record StartAnswer : Type 0 where
@@ -32,6 +33,11 @@ pub record TickAnswer : Type 0 where
 unfoldable pub tick_answer : StateRecord → TickReply → TickAnswer
 tick_answer w (tick_refused n) = record { refusal = n; runner = idle; faults = replicate 8 0; state = w }
 tick_answer w (ticked runner faults v) = record { refusal = 0; runner = runner; faults = padded 8 0 faults; state = v }
+
+-- what a tick told, with the state that it left
+abbrev pub with_state : State → Result Told Refusal → Result Ticked Refusal
+with_state st (Ok t) = Ok (record { runner = t.runner; faults = t.faults; state = st })
+with_state st (Err r) = Err r
 
 unfoldable pub ticked_of : StateRecord → Result Ticked Refusal → TickAnswer
 ticked_of w (Err r) = record { refusal = number_of r; runner = idle; faults = replicate 8 0; state = w }

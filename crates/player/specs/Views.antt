@@ -1,5 +1,5 @@
 -- What the player's structs stand for in the rules. Arrays are read by place.
-use Rattle.std.specs.Prelude.{ℕ, List, Option, Some, None, get_or}
+use Rattle.std.specs.Prelude.{ℕ, ◌<◌, List, Option, Some, None, IfSome, get_or}
 use Rattle.rules.specs.Lists.{tabulate}
 use Rattle.rules.specs.Jobs as model
 use Rattle.rules.specs.States.{StateRecord}
@@ -53,6 +53,10 @@ faults_of fs = tabulate (λ i. fault_number (get_or fs i None)) 0 8
 abbrev pub runner_number : Option ℕ → ℕ
 runner_number None = 255
 runner_number (Some i) = i
+
+-- who runs, if anybody does, is one of the eight tasks
+abbrev pub IsTask : Option ℕ → Type 0
+IsTask r = IfSome r (λ i. i < 8)
 
 unfoldable pub state_of : State → StateRecord
 state_of st = record { set = record_of st.set; slot = st.slot; planned = eight st.planned; jobs = jobs_of st.jobs; last = runner_number st.last }

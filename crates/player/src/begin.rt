@@ -1,5 +1,5 @@
 // A start: the state that a set begins in, and whether a table is a schedule.
-ghost use Rattle.std.specs.Prelude.{◌≡◌, ◌&&◌, ◌≤◌, length, replicate};
+ghost use Rattle.std.specs.Prelude.{◌≡◌, ◌&&◌, ◌≤◌, None, length, replicate};
 ghost use Rattle.rules.specs.Lists.{padded};
 ghost use Rattle.rules.specs.Positions.{live_position, start};
 ghost use Rattle.rules.specs.Choices.{live_from};
@@ -47,7 +47,8 @@ fn fresh_jobs(n: usize) -> [Job; 8]
 
 // The state at a start: the start position, all jobs done, nobody ran.
 pub(crate) fn fresh_state(set: &TaskSet) -> State
-    ensures { state_of result ≡ as_record (tidied (record_of set.now)) (fresh (set_of set.now)) }
+    ensures begun { state_of result ≡ as_record (tidied (record_of set.now)) (fresh (set_of set.now)) }
+    ensures nobody { result.last ≡ None }
 {
     State {
         set: tidy_set(set),

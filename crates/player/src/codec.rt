@@ -231,7 +231,8 @@ pub fn write_set(set: TaskSet, out: &mut [u8])
 
 // Who ran last, by a state's last byte.
 fn last_from(byte: u8) -> Option<u8>
-    ensures { runner_number result ≡ byte }
+    ensures number { runner_number result ≡ byte }
+    ensures task { IfSome result (λ i. i < 255) }
 {
     if byte == IDLE { None } else { Some(byte) }
 }
@@ -249,6 +250,7 @@ impl State {
     pub fn from_bytes(bytes: &[u8; STATE_SIZE]) -> Option<Self>
         ensures readable { IsSome result ↔ (readable bytes.now ≡ true) }
         ensures value { IfSome result (λ state. state_of state ≡ state_at bytes.now) }
+        ensures task { IfSome result (λ state. IfSome state.last (λ i. i < 255)) }
     {
         Some(State {
             jobs: jobs_in(bytes)?,

@@ -1,5 +1,5 @@
 // The form that a state must have, else 10.
-ghost use Rattle.std.specs.Prelude.{◌≡◌, ◌==◌, T, length, map};
+ghost use Rattle.std.specs.Prelude.{◌≡◌, ◌==◌, true, false, T, MatchOption, length, map};
 ghost use Rattle.std.specs.List.{list_all};
 ghost use Rattle.rules.specs.Hyper as rules;
 ghost use Rattle.rules.specs.Records.{set_in};
@@ -7,19 +7,20 @@ ghost use Rattle.rules.specs.States.{is_blank_job, is_blank_task, units_tidy, jo
 ghost use Rattle.tasks.specs.Views.{entry_of, task_of};
 ghost use Rattle.tasks.specs.Timed.{timed_task};
 ghost use Rattle.player.specs.Views.{job_of, runner_number, state_of};
-ghost use Rattle.player.specs.Forms.{plan_fits, task_fits, tasks_fit, rest_fits, parts_fit};
+ghost use Rattle.player.specs.Forms.{plan_fits, task_fits, tasks_fit, rest_fits, others_fit, Leads};
 
 use crate::{Job, Stand, State};
+use tasks::position::Onward;
 use tasks::timed::Timed;
 use tasks::{IDLE, Refusal, Task};
 
 // A state of the form, with its set's hyper-period. The test below alone makes it.
 #[derive(Clone, Copy, Debug, PartialEq, Eq)]
-pub struct Formed {
-    pub state: State,
+pub struct Formed<'a> {
+    pub state: &'a State,
     pub hyper: u16,
-    pub ghost formed: { T (form (state_of state)) },
-    pub ghost period: { hyper ≡ rules.hyper (set_in (state_of state).set) },
+    pub ghost formed: { T (form (state_of state.now)) },
+    pub ghost period: { hyper ≡ rules.hyper (set_in (state_of state.now).set) },
 }
 
 // A task's planned progress: at most L, 0 where its job starts, and in time.
@@ -66,31 +67,38 @@ fn is_tidy(task: &Task) -> bool
 
 // A task in use, its planned progress and its job.
 #[tactic(auto, unfolding(tasks::specs::Views::task_of))]
-fn task_fits(task: &Task, slot: u16, progress: u16, ran: bool, job: &Job) -> bool
+fn task_fits(task: &Task, timed: &Timed, slot: u16, progress: u16, ran: bool, job: &Job) -> bool
+    requires { timed_task timed.now ≡ task_of task.now }
     ensures { result ≡ task_fits slot (entry_of task.now) progress ran (job_of job.now) }
 {
-    let timed = Timed::from(*task);
-    plan_fits(&timed, slot, progress) && job_fits(task, ran, job) && is_tidy(task)
+    plan_fits(timed, slot, progress) && job_fits(task, ran, job) && is_tidy(task)
 }
 
-// Each task in use, its planned progress and its job.
-#[tactic(auto, using(crate::proofs::Forms::fits))]
-fn tasks_fit(state: &State) -> bool
-    ensures { result ≡ tasks_fit (state_of state.now) 0 }
+// Where a choice leads, if each task in use, its planned progress and its job fit. (One look at a task serves both: `advance` behind a test of all
+// tasks took a tenth longer for a tick.)
+fn look(state: &State, choice: u8) -> Option<Onward>
+    ensures { MatchOption result (tasks_fit (state_of state.now) 0 ≡ false) (λ onward. (tasks_fit (state_of state.now) 0 ≡ true) × Leads state.now choice onward) }
 {
-    // (No `zip` and `all`: three arrays go side by side.)
+    let mut legal = state.set.may_choose(&state.planned, choice);
+    let mut progress = [0u16; 8];
     for (i, task) in state.set.used().iter().enumerate() {
+        let timed = Timed::from(*task);
+        let planned = state.planned[i];
         if !task_fits(
             task,
+            &timed,
             state.slot,
-            state.planned[i],
+            planned,
             state.ran(i),
             &state.jobs[i],
         ) {
-            return false;
+            return None;
         }
+        let passed = timed.pass(state.slot, planned, usize::from(choice) == i);
+        progress[i] = passed.progress;
+        legal = legal && passed.well;
     }
-    true
+    Some(Onward { legal, progress })
 }
 
 // The last runner: none, or a ready task with a slot given.
@@ -139,31 +147,36 @@ fn rest_fits(state: &State) -> bool
         && jobs_blank(&state.jobs[n..])
 }
 
-// The form of all but the set and the slot: the tasks in use, the last runner, and zeros in the parts not in use.
+// The last runner, and zeros in the parts not in use.
 #[tactic(auto, using(crate::proofs::Forms::parts))]
-fn parts_fit(state: &State) -> bool
-    ensures { result ≡ parts_fit (state_of state.now) }
+fn others_fit(state: &State) -> bool
+    ensures { result ≡ others_fit (state_of state.now) }
 {
     let n = state.set.used().len();
-    tasks_fit(state) && last_fits(&state.jobs[..n], state.last) && rest_fits(state)
+    last_fits(&state.jobs[..n], state.last) && rest_fits(state)
 }
 
-// The test of the form: an admissible task set, a live planned position with progress 0 where the period divides the slot, jobs within their
-// patterns, the last runner none or a ready task with a slot given, and zeros in the parts not in use.
-impl TryFrom<State> for Formed {
-    type Error = Refusal;
-
+impl<'a> Formed<'a> {
     ghost use Rattle.player.specs.Tested.{Tests};
 
-    ghost try_from_gives = { Tests };
-
+    // The test of the form: an admissible task set, a live planned position with progress 0 where the period divides the slot, jobs within their
+    // patterns, the last runner none or a ready task with a slot given, and zeros in the parts not in use. For a state that has it, where a choice
+    // leads.
     #[tactic(auto, using(crate::proofs::Forms::wholes))]
-    fn try_from(state: State) -> Result<Self, Refusal> {
+    pub fn test(state: &'a State, choice: u8) -> Result<(Self, Onward), Refusal>
+        ensures { Tests state.now choice result }
+    {
         let Ok(hyper) = state.set.admit() else {
             return Err(Refusal::BadState);
         };
-        if state.slot < hyper && parts_fit(&state) {
-            Ok(Formed { state, hyper })
+        if hyper <= state.slot {
+            return Err(Refusal::BadState);
+        }
+        let Some(onward) = look(state, choice) else {
+            return Err(Refusal::BadState);
+        };
+        if others_fit(state) {
+            Ok((Formed { state, hyper }, onward))
         } else {
             Err(Refusal::BadState)
         }

@@ -4,7 +4,7 @@ ghost use Rattle.rules.specs.Lists.{padded};
 ghost use Rattle.rules.specs.Player.{tick};
 ghost use Rattle.rules.specs.States.{blank_job, in_use};
 ghost use Rattle.tasks.specs.Views.{set_of};
-ghost use Rattle.player.specs.Views.{fault_number, runner_number, faults_of, jobs_of, state_of};
+ghost use Rattle.player.specs.Views.{IsTask, fault_number, runner_number, faults_of, jobs_of, state_of};
 ghost use Rattle.player.specs.Turns.{turn_in, turn_for};
 
 use crate::form::Formed;
@@ -29,12 +29,12 @@ impl State {
     }
 }
 
-impl Formed {
+impl Formed<'_> {
     // Task i + 1 at its turn, in a slot of this entry.
     fn turn(&self, i: usize, entry: u8) -> TaskTurn
         requires place { i < 8 }
-        requires used { i < self.now.state.set.count }
-        ensures { (report : ℕ) → turn_in result report ≡ turn_for self.now.state entry i report }
+        requires used { i < self.now.state.now.set.count }
+        ensures { (report : ℕ) → turn_in result report ≡ turn_for self.now.state.now entry i report }
     {
         TaskTurn {
             task: self.state.set.tasks[i],
@@ -49,10 +49,11 @@ impl Formed {
     // Every task takes its turn. The owner of the slot is the only one that can run.
     pub(crate) fn turns(&self, table: &[u8], reports: &[u8]) -> TurnsTaken
         requires slots { length table.now ≡ self.now.hyper }
-        requires each { length reports.now ≡ self.now.state.set.count }
-        ensures jobs { jobs_of result.jobs ≡ padded 8 blank_job (tick (set_of self.now.state.set) table.now (in_use (state_of self.now.state)) reports.now).state.jobs }
-        ensures faults { faults_of result.faults ≡ padded 8 0 (tick (set_of self.now.state.set) table.now (in_use (state_of self.now.state)) reports.now).faults }
-        ensures runner { runner_number result.runner ≡ (tick (set_of self.now.state.set) table.now (in_use (state_of self.now.state)) reports.now).runner }
+        requires each { length reports.now ≡ self.now.state.now.set.count }
+        ensures jobs { jobs_of result.jobs ≡ padded 8 blank_job (tick (set_of self.now.state.now.set) table.now (in_use (state_of self.now.state.now)) reports.now).state.jobs }
+        ensures faults { faults_of result.faults ≡ padded 8 0 (tick (set_of self.now.state.now.set) table.now (in_use (state_of self.now.state.now)) reports.now).faults }
+        ensures runner { runner_number result.runner ≡ (tick (set_of self.now.state.now.set) table.now (in_use (state_of self.now.state.now)) reports.now).runner }
+        ensures task { IsTask result.runner }
     {
         let entry = table[usize::from(self.state.slot)];
         let mut jobs = [Job::default(); 8];

@@ -1,11 +1,11 @@
 // A start and a tick on byte strings: each string is read once and written once, and a refusal changes no lent byte.
-ghost use Rattle.std.specs.Prelude.{◌≡◌, ◌↔◌, ◌++◌, ◌≤◌, ◌<◌, ℕ, true, None, IsSome, IfSome, drop, length, slice_index, slice_index_or};
+ghost use Rattle.std.specs.Prelude.{◌≡◌, ◌↔◌, ◌++◌, ◌≤◌, ◌<◌, ℕ, true, None, IfOk, IsSome, IfSome, drop, length, slice_index, slice_index_or};
 ghost use Rattle.player.specs.Bytes.{state_bytes, state_at, readable};
 ghost use Rattle.player.specs.Boundary.{start_call, start_number, start_buffer, tick_call, tick_number, tick_buffer, tick_faults, start_told, tick_told};
-ghost use Rattle.player.specs.Views.{fault_number, state_of};
+ghost use Rattle.player.specs.Views.{IsTask, fault_number, state_of};
 
 use crate::codec::{STATE_SIZE, set_from_bytes};
-use crate::{Cause, State, start, tick};
+use crate::{Cause, State, start};
 use tasks::Refusal;
 
 // A state, put at the start of a string that has room for it.
@@ -78,17 +78,18 @@ pub fn tick_string(
     ensures number { tick_told result ≡ tick_number (tick_call state.now table.now reports.now next.old faults.old) }
     ensures buffer { next.new ≡ tick_buffer (tick_call state.now table.now reports.now next.old faults.old) next.old }
     ensures shown { faults.new ≡ tick_faults (tick_call state.now table.now reports.now next.old faults.old) faults.old }
+    ensures task { IfOk result IsTask }
 {
-    let Some(before) = state_in(state) else {
+    let Some(mut held) = state_in(state) else {
         return Err(Refusal::BadState);
     };
-    let ticked = tick(before, table, reports)?;
-    let n = before.set.used().len();
+    let n = held.set.used().len();
+    let told = held.follow(table, reports)?;
     if next.len() < STATE_SIZE || faults.len() < n {
         return Err(Refusal::ShortBuffer);
     }
-    put_state(&ticked.state, next);
-    let shown = fault_bytes(ticked.faults);
+    put_state(&held, next);
+    let shown = fault_bytes(told.faults);
     faults[..n].copy_from_slice(&shown[..n]);
-    Ok(ticked.runner)
+    Ok(told.runner)
 }

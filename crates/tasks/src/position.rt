@@ -37,7 +37,7 @@ impl TaskSet {
     }
 
     // The choice is idle or a ready task.
-    fn may_choose(&self, progress: &[u16; 8], choice: u8) -> bool
+    pub fn may_choose(&self, progress: &[u16; 8], choice: u8) -> bool
         ensures { result ≡ allowed (set_of self.now) (progress_of self.now progress.now) choice }
     {
         if choice == IDLE {

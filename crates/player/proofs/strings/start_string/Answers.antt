@@ -13,15 +13,15 @@ returns-in_default c = let x = start-length c.args.set.now c.args.table.now c.ar
 pub returns-in_err-fresh : goal.returns-in_err-fresh
 returns-in_err-fresh c =
     let why = c.in_err-fresh.field-0.0 in
-    let x = start-refused _ _ c.args.state.now c.in-Ok.ensures.1.long _ (c.set_from_bytes.ensures ∙ ap set_at c.in-Ok.ensures.1.same) (Err why) c.in_err-fresh.ensures why refl in
+    let x = start-refused _ _ c.args.state.now c.in-Ok.ensures.1.long _ (c.set_from_bytes.ensures ∙ ap set_at c.in-Ok.ensures.1.same) (Err why) c.in_err-fresh.ensures.reply why refl in
     record { number = rw (passed_on _ _ c.from_residual.ensures.1) x.number; buffer = x.buffer }
 
 pub returns-then-state-lt-STATE_SIZE : goal.returns-then-state-lt-STATE_SIZE
 returns-then-state-lt-STATE_SIZE c =
-    let x = start-short _ _ _ c.in-Ok.ensures.1.long _ (c.set_from_bytes.ensures ∙ ap set_at c.in-Ok.ensures.1.same) (Ok c.in_ok-fresh.fresh) c.in_ok-fresh.ensures c.in_ok-fresh.fresh refl (omega arith) in
+    let x = start-short _ _ _ c.in-Ok.ensures.1.long _ (c.set_from_bytes.ensures ∙ ap set_at c.in-Ok.ensures.1.same) (Ok c.in_ok-fresh.fresh) c.in_ok-fresh.ensures.reply c.in_ok-fresh.fresh refl (omega arith) in
     record { number = x.number; buffer = x.buffer }
 
 pub returns : goal.returns
 returns c =
-    let x = start-done _ _ _ c.in-Ok.ensures.1.long _ (c.set_from_bytes.ensures ∙ ap set_at c.in-Ok.ensures.1.same) (Ok c.in_ok-fresh.fresh) c.in_ok-fresh.ensures c.in_ok-fresh.fresh refl _ (omega arith) c.put_state.ensures in
+    let x = start-done _ _ _ c.in-Ok.ensures.1.long _ (c.set_from_bytes.ensures ∙ ap set_at c.in-Ok.ensures.1.same) (Ok c.in_ok-fresh.fresh) c.in_ok-fresh.ensures.reply c.in_ok-fresh.fresh refl _ (omega arith) c.put_state.ensures in
     record { number = x.number; buffer = x.buffer }

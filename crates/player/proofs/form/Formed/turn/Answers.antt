@@ -6,10 +6,10 @@ pub invariant_of-result : goal.invariant_of-result
 invariant_of-result c =
     let x = c.args.self.now in
     let i = c.args.i in
-    record { formed = rw (c.ran.ensures) (job-formed x.state x.formed i c.requires.used); anew = plan-anew x.state x.formed i c.requires.used }
+    record { formed = rw (c.ran.ensures) (job-formed x.state.now x.formed i c.requires.used); anew = plan-anew x.state.now x.formed i c.requires.used }
 
 pub returns : goal.returns
 returns c report =
     let x = c.args.self.now in
     let i = c.args.i in
-    rw (c.ran.ensures, c.from.ensures) (turn-is x.state x.formed c.args.entry i report c.requires.used)
+    rw (c.ran.ensures, c.from.ensures) (turn-is x.state.now x.formed c.args.entry i report c.requires.used)

@@ -5,4 +5,4 @@ use Rattle.player.proofs.Rounds.{Taken}
 use Rattle.player.proofs.form.Formed.turns.Given as goal
 
 abbrev pub invariant-loop-i : goal.invariant-loop-i
-invariant-loop-i l = (length l.reports ≤ 8) × Taken l.self.state l.entry l.reports l.i l.jobs l.faults l.runner
+invariant-loop-i l = (length l.reports ≤ 8) × Taken l.self.state.now l.entry l.reports l.i l.jobs l.faults l.runner
