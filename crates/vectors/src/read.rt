@@ -1,5 +1,5 @@
 // The parts of a script line.
-ghost use Rattle.std.specs.Prelude.{◌≡◌, ◌<◌, ◌==◌, IfSome, length, position};
+ghost use Rattle.std.specs.Prelude.{◌≡◌, ◌-◌, ◌<◌, ◌≤◌, ◌==◌, ◌⊎◌, ◌↔◌, IfOk, IfSome, IsNone, drop, if◌then◌else◌, length, map, nat_lt, position, slice_index, take, vec_len};
 ghost use Rattle.std.specs.Iterator.{at_most};
 
 use std::alloc::{AllocError, Global};
@@ -32,7 +32,9 @@ impl<'a> Iterator for Fields<'a> {
 }
 
 // A digit's value, and 0 for another sign. (By hand: the library's digits are of a `char`, and give None.)
-fn digit(sign: u8) -> usize {
+fn digit(sign: u8) -> usize
+    ensures { result < 10 }
+{
     match sign {
         b'0'..=b'9' => usize::from(sign - b'0'),
         _ => 0,
@@ -66,14 +68,18 @@ struct Piece {
     times: usize,
 }
 
-fn single(byte: u8) -> Piece {
+fn single(byte: u8) -> Piece
+    ensures { (result.byte ≡ byte) × (result.times ≡ 1) }
+{
     Piece { byte, times: 1 }
 }
 
 // What a list begins with, and what stands behind it: `\*NNNNb` is the byte b NNNN times, `\xHH` a byte by its number, `\n` a line feed.
 // Another byte stands for itself, also behind a backslash. Nothing at the quote that ends the list.
 fn next_piece(line: &[u8]) -> Option<(Piece, &[u8])>
-    ensures { IfSome result (λ found. length found.1.now < length line.now) }
+    ensures ends { IsNone result ↔ (length line.now ≡ 0) ⊎ (slice_index line.now 0 ≡ 34) }
+    ensures shorter { IfSome result (λ found. length found.1.now < length line.now) }
+    ensures rest { IfSome result (λ found. found.1.now ≡ drop (length line.now - length found.1.now) line.now) }
 {
     match line {
         [] | [b'"', ..] => None,
@@ -90,7 +96,11 @@ fn next_piece(line: &[u8]) -> Option<(Piece, &[u8])>
 }
 
 // The list up to the next quote, as far as there is space, and what stands behind the quote.
-pub fn unescape(alloc: Global, line: &[u8]) -> Result<(Vec<u8>, &[u8]), AllocError> {
+pub fn unescape(alloc: Global, line: &[u8]) -> Result<(Vec<u8>, &[u8]), AllocError>
+    ensures list { IfOk result (λ found. vec_len found.0 ≤ MOST) }
+    ensures shorter { IfOk result (λ found. length found.1.now ≤ length line.now) }
+    ensures rest { IfOk result (λ found. found.1.now ≡ drop (length line.now - length found.1.now) line.now) }
+{
     let mut list = Vec::new(alloc);
     let mut rest = line;
     // (No iterator: what is left is needed behind the last piece.)
@@ -102,7 +112,9 @@ pub fn unescape(alloc: Global, line: &[u8]) -> Result<(Vec<u8>, &[u8]), AllocErr
 }
 
 // Signs as numbers, counted from the sign of 0; a sign below it is 255.
-pub fn values(alloc: Global, word: &[u8], zero: u8) -> Result<Vec<u8>, AllocError> {
+pub fn values(alloc: Global, word: &[u8], zero: u8) -> Result<Vec<u8>, AllocError>
+    ensures { IfOk result (λ found. found.items ≡ map (λ sign. if nat_lt sign zero then 255 else sign - zero) (take MOST word.now)) }
+{
     word.iter()
         .take(MOST)
         .map(|sign| sign.checked_sub(zero).unwrap_or(255))
