@@ -1,10 +1,9 @@
--- The list has MOST bytes at most, and what is left ends the line. The measure is how long that is.
-use Rattle.std.proofs.Common.{◌≡◌, ◌-◌, ◌≤◌, drop, length, vec_len}
+-- What is left ends the line. The measure is how long that is.
+use Rattle.std.proofs.Common.{◌≡◌, ◌-◌, ◌≤◌, drop, length}
 use Rattle.vectors.proofs.read.unescape.Given as goal
 
 abbrev pub invariant-loop-piece : goal.invariant-loop-piece
 invariant-loop-piece l = record {
-  list : vec_len l.list ≤ 8192;
   shorter : length l.rest ≤ length l.fn.line;
   rest : l.rest ≡ drop (length l.fn.line - length l.rest) l.fn.line;
 }
