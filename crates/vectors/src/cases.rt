@@ -1,10 +1,10 @@
 // The three kinds of cases.
+use crate::bytes::Bytes;
 use crate::read::{Fields, number, values};
 use crate::records;
 use crate::write::{Faults, NO_SLOT, Set, Text, into_signs, slot_sign};
 use planner::{Answer, Word};
 use player::State;
-use std::alloc::Global;
 use std::io;
 use std::io::Write;
 use tasks::{IDLE, TaskSet};
@@ -17,7 +17,7 @@ const SLOTS: usize = 5000;
 
 const NUMBERS: usize = 24000;
 
-const SHOWN: usize = 12;
+pub const SHOWN: usize = 12;
 
 // The reader's reply to a list.
 pub fn reading<W: Write>(out: &mut W, list: &[u8]) -> io::Result<()> {
@@ -38,7 +38,6 @@ pub fn reading<W: Write>(out: &mut W, list: &[u8]) -> io::Result<()> {
 // The lent table and area after a reply with so many records for so many tasks. Where all had room, and there are few, they are shown, in
 // order: their order in the area is free, and so is which remain where there was no room for all.
 fn buffers<W: Write>(
-    alloc: Global,
     out: &mut W,
     table: &mut [u8],
     area: &[u16],
@@ -59,14 +58,13 @@ fn buffers<W: Write>(
         Text(table)
     )?;
     if shown && count <= SHOWN {
-        records::all(alloc, out, area, count, tasks)?;
+        records::all(out, area, count, tasks)?;
     }
     out.write_all(b"\n")
 }
 
 // The planner's reply to a set, and what it leaves in the table and the area.
 fn planned<W: Write>(
-    alloc: Global,
     out: &mut W,
     set: &TaskSet,
     table: &mut [u8],
@@ -81,44 +79,38 @@ fn planned<W: Write>(
             };
             writeln!(out, "  {name} {dead}")?;
             let shown = !matches!(word, Word::OutOfRoom);
-            buffers(alloc, out, table, area, set.count, dead, shown)
+            buffers(out, table, area, set.count, dead, shown)
         }
         Err(refusal) => {
             writeln!(out, "  refused {}", u8::from(refusal))?;
-            buffers(alloc, out, table, area, set.count, 0, false)
+            buffers(out, table, area, set.count, 0, false)
         }
     }
 }
 
 // A plan: the list, the length of the table and that of the area.
-pub fn planning<W: Write>(
-    alloc: Global,
-    out: &mut W,
-    list: &[u8],
-    mut fields: Fields<'_>,
-) -> io::Result<()> {
+pub fn planning<W: Write>(out: &mut W, list: &[u8], mut fields: Fields<'_>) -> io::Result<()> {
     let Ok(set) = list::read(list) else {
         return reading(out, list);
     };
     let slots = fields.next().map_or(0, number).min(SLOTS);
     let numbers = fields.next().map_or(0, number).min(NUMBERS);
-    let mut table = vec![in alloc; NO_SLOT; slots]?;
-    let mut area = vec![in alloc; NO_NUMBER; numbers]?;
-    planned(alloc, out, &set, &mut table, &mut area)
+    let mut table = [NO_SLOT; SLOTS];
+    let mut area = [NO_NUMBER; NUMBERS];
+    planned(out, &set, &mut table[..slots], &mut area[..numbers])
 }
 
-// A tick with the table and the reports as the script writes them, and its reply. The new state.
+// A tick with the table and the reports, which are written as in the script, and its reply. The new state.
 fn tick<W: Write>(
-    alloc: Global,
     out: &mut W,
     state: State,
     table: &[u8],
     signs: &[u8],
+    reports: &[u8],
 ) -> io::Result<State> {
-    let reports = values(alloc, signs, b'0')?;
     write!(out, "  {}: ", state.slot)?;
     out.write_all(signs)?;
-    match player::tick(state, table, &reports) {
+    match player::tick(state, table, reports) {
         Ok(ticked) => {
             let runner = char::from(slot_sign(ticked.runner.unwrap_or(IDLE)));
             let used = ticked.state.set.used().len();
@@ -133,27 +125,27 @@ fn tick<W: Write>(
 }
 
 // A play: the list, the table and the reports of each tick. A field that begins with `=` is the table from there on.
-pub fn playing<W: Write>(
-    alloc: Global,
-    out: &mut W,
-    list: &[u8],
-    mut fields: Fields<'_>,
-) -> io::Result<()> {
+pub fn playing<W: Write>(out: &mut W, list: &[u8], mut fields: Fields<'_>) -> io::Result<()> {
     let Ok(set) = list::read(list) else {
         return reading(out, list);
     };
     let Some(field) = fields.next() else {
         return Ok(());
     };
-    let mut table = values(alloc, field, b'1')?;
-    let mut state = match player::start(&set, &table) {
+    let mut table = Bytes::new();
+    values(field, b'1', &mut table);
+    let mut state = match player::start(&set, table.as_slice()) {
         Ok(state) => state,
         Err(refusal) => return writeln!(out, "  refused {}", u8::from(refusal)),
     };
+    let mut reports = Bytes::new();
     for field in fields {
         match field {
-            [b'=', signs @ ..] => table = values(alloc, signs, b'1')?,
-            signs => state = tick(alloc, out, state, &table, signs)?,
+            [b'=', signs @ ..] => values(signs, b'1', &mut table),
+            signs => {
+                values(signs, b'0', &mut reports);
+                state = tick(out, state, table.as_slice(), signs, reports.as_slice())?;
+            }
         }
     }
     Ok(())

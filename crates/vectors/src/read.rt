@@ -1,11 +1,10 @@
 // The parts of a script line.
-ghost use Rattle.std.specs.Prelude.{◌≡◌, ◌<◌, ◌==◌, IfSome, length, position};
+ghost use Rattle.std.specs.Prelude.{◌≡◌, ◌-◌, ◌<◌, ◌≤◌, ◌==◌, ◌⊎◌, ◌↔◌, IfSome, IsNone, drop, if◌then◌else◌, length, map, nat_lt, position, slice_index, take};
 ghost use Rattle.std.specs.Iterator.{at_most};
+ghost use Rattle.vectors.specs.Held.{bytes_of};
+ghost use Rattle.vectors.specs.declared.bytes.TheConstants.{MOST};
 
-use std::alloc::{AllocError, Global};
-
-// The most bytes of a list, and the most signs of a table or of reports.
-const MOST: usize = 8192;
+use crate::bytes::{Bytes, MOST};
 
 // Where the first space stands.
 fn space(line: &[u8]) -> Option<usize>
@@ -32,7 +31,9 @@ impl<'a> Iterator for Fields<'a> {
 }
 
 // A digit's value, and 0 for another sign. (By hand: the library's digits are of a `char`, and give None.)
-fn digit(sign: u8) -> usize {
+fn digit(sign: u8) -> usize
+    ensures { result < 10 }
+{
     match sign {
         b'0'..=b'9' => usize::from(sign - b'0'),
         _ => 0,
@@ -66,14 +67,18 @@ struct Piece {
     times: usize,
 }
 
-fn single(byte: u8) -> Piece {
+fn single(byte: u8) -> Piece
+    ensures { (result.byte ≡ byte) × (result.times ≡ 1) }
+{
     Piece { byte, times: 1 }
 }
 
 // What a list begins with, and what stands behind it: `\*NNNNb` is the byte b NNNN times, `\xHH` a byte by its number, `\n` a line feed.
 // Another byte stands for itself, also behind a backslash. Nothing at the quote that ends the list.
 fn next_piece(line: &[u8]) -> Option<(Piece, &[u8])>
-    ensures { IfSome result (λ found. length found.1.now < length line.now) }
+    ensures ends { IsNone result ↔ (length line.now ≡ 0) ⊎ (slice_index line.now 0 ≡ 34) }
+    ensures shorter { IfSome result (λ found. length found.1.now < length line.now) }
+    ensures rest { IfSome result (λ found. found.1.now ≡ drop (length line.now - length found.1.now) line.now) }
 {
     match line {
         [] | [b'"', ..] => None,
@@ -89,22 +94,29 @@ fn next_piece(line: &[u8]) -> Option<(Piece, &[u8])>
     }
 }
 
-// The list up to the next quote, as far as there is space, and what stands behind the quote.
-pub fn unescape(alloc: Global, line: &[u8]) -> Result<(Vec<u8>, &[u8]), AllocError> {
-    let mut list = Vec::new(alloc);
+// The list up to the next quote, as far as there is space, in place of what the buffer holds. What stands behind the quote.
+pub fn unescape<'a>(line: &'a [u8], list: &mut Bytes) -> &'a [u8]
+    ensures list { length (bytes_of list.new) ≤ MOST }
+    ensures shorter { length result.now ≤ length line.now }
+    ensures rest { result.now ≡ drop (length line.now - length result.now) line.now }
+{
+    list.clear();
     let mut rest = line;
     // (No iterator: what is left is needed behind the last piece.)
     while let Some((piece, behind)) = next_piece(rest) {
-        list.resize(list.len().saturating_add(piece.times).min(MOST), piece.byte)?;
+        list.add(piece.byte, piece.times);
         rest = behind;
     }
-    Ok((list, rest.get(1..).unwrap_or(&[])))
+    rest.get(1..).unwrap_or(&[])
 }
 
-// Signs as numbers, counted from the sign of 0; a sign below it is 255.
-pub fn values(alloc: Global, word: &[u8], zero: u8) -> Result<Vec<u8>, AllocError> {
-    word.iter()
-        .take(MOST)
-        .map(|sign| sign.checked_sub(zero).unwrap_or(255))
-        .collect(alloc)
+// Signs as numbers, counted from the sign of 0; a sign below it is 255. They stand in place of what the buffer holds.
+pub fn values(word: &[u8], zero: u8, found: &mut Bytes)
+    ensures { bytes_of found.new ≡ map (λ sign. if nat_lt sign zero then 255 else sign - zero) (take MOST word.now) }
+{
+    let word = &word[..word.len().min(MOST)];
+    for (i, sign) in word.iter().enumerate() {
+        found.held[i] = sign.checked_sub(zero).unwrap_or(255);
+    }
+    found.count = word.len();
 }
