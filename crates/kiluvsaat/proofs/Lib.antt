@@ -1,3 +1,4 @@
 pub mod Listed
 pub mod Planned
 pub mod Promises
+pub mod Within
